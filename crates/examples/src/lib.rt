@@ -1,0 +1,12 @@
+//! The worked examples: theorems about the definitions, and tests that run the code.
+ghost use Rattle.examples.specs.Examples.{Examples};
+
+#[cfg(test)]
+mod weights;
+
+/// The worked examples hold.
+pub fn examples_hold() -> u8
+    ensures { λ _. ⌜ Examples ⌝ }
+{
+    0
+}

@@ -1,0 +1,9 @@
+pub mod OneWord
+pub mod Parts
+pub mod Rounded
+pub mod Rounds
+pub mod Routes
+pub mod Same
+pub mod SideBySide
+pub mod Table
+pub mod Totals

@@ -1,0 +1,9 @@
+pub mod Kinds
+pub mod Sums
+pub mod Words
+pub mod Mask
+pub mod Grey
+pub mod Height
+pub mod Ink
+pub mod Valve
+pub mod Pair

@@ -1,0 +1,36 @@
+//! Kinds of weight: semirings whose laws each implementation proves, and how their values are written.
+pub mod grey;
+pub mod height;
+pub mod ink;
+mod kind;
+mod mask;
+mod pair;
+mod sums;
+mod valve;
+mod word;
+mod written;
+
+pub use grey::Grey;
+pub use grey::GreyWeight;
+pub use grey::GreyWritten;
+pub use height::Height;
+pub use height::HeightWeight;
+pub use height::HeightWritten;
+pub use ink::Ink;
+pub use ink::InkWeight;
+pub use ink::InkWritten;
+pub use kind::Weight;
+pub use mask::Mask;
+pub use mask::MaskWeight;
+pub use mask::MaskWritten;
+pub use pair::Pair;
+pub use pair::PairWeight;
+pub use pair::PairWritten;
+pub use sums::product;
+pub use sums::sum_laws;
+pub use sums::total;
+pub use valve::Valve;
+pub use valve::ValveWeight;
+pub use valve::ValveWritten;
+pub use written::TOO_WIDE;
+pub use written::Written;
