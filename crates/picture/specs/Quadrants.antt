@@ -1,5 +1,8 @@
--- Quadrants and the digits that name them.
+-- Quadrants, the digits that name them, and addresses.
+use mathlib.Core.Bool.{Bool}
+use mathlib.Core.List.{List}
 use Prim.Native.Nat.{ℕ, zero, suc}
+use lib.Dec.{eqb}
 use Rattle.std.specs.declared.option.Option.{Option}
 use Rattle.std.specs.declared.option.Option.the-variants.{Some, None}
 use Rattle.picture.specs.declared.quadrant.Quadrant.{Quadrant}
@@ -18,3 +21,10 @@ quadrant (suc zero) = Some UpperRight
 quadrant (suc (suc zero)) = Some LowerLeft
 quadrant (suc (suc (suc zero))) = Some LowerRight
 quadrant (suc (suc (suc (suc n)))) = None
+
+abbrev pub same : Quadrant → Quadrant → Bool
+same d e = eqb (digit d) (digit e)
+
+-- an address, the coarsest digit first
+abbrev pub Address : Type 0
+Address = List Quadrant
