@@ -3,14 +3,7 @@ use mathlib.Core.List.{List, [], _∷_, _++_, map}
 use Prim.Native.Nat.{ℕ, zero, suc, _+_, _*_, _/_, _%_, _-_, _^_, _<_, _≤_}
 use Rattle.std.specs.Iters.{counting}
 use Rattle.std.specs.Joined.{joined}
-use Rattle.std.specs.Options.{valueOr}
-use Rattle.picture.specs.Quadrants.{Address, quadrant}
-use Rattle.picture.specs.declared.quadrant.Quadrant.{Quadrant}
-use Rattle.picture.specs.declared.quadrant.Quadrant.the-variants.{UpperLeft}
-
--- the quadrant that a number below 4 names
-abbrev pub named : ℕ → Quadrant
-named n = valueOr (quadrant n) UpperLeft
+use Rattle.picture.specs.Quadrants.{Address, named}
 
 abbrev pub bit : ℕ → ℕ → ℕ
 bit i n = n / 2 ^ i % 2

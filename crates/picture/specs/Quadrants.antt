@@ -3,6 +3,7 @@ use mathlib.Core.Bool.{Bool}
 use mathlib.Core.List.{List}
 use Prim.Native.Nat.{ℕ, zero, suc}
 use lib.Dec.{eqb}
+use Rattle.std.specs.Options.{valueOr}
 use Rattle.std.specs.declared.option.Option.{Option}
 use Rattle.std.specs.declared.option.Option.the-variants.{Some, None}
 use Rattle.picture.specs.declared.quadrant.Quadrant.{Quadrant}
@@ -21,6 +22,10 @@ quadrant (suc zero) = Some UpperRight
 quadrant (suc (suc zero)) = Some LowerLeft
 quadrant (suc (suc (suc zero))) = Some LowerRight
 quadrant (suc (suc (suc (suc n)))) = None
+
+-- the quadrant that a number below 4 names, and upper left for any other
+abbrev pub named : ℕ → Quadrant
+named n = valueOr (quadrant n) UpperLeft
 
 abbrev pub same : Quadrant → Quadrant → Bool
 same d e = eqb (digit d) (digit e)

@@ -39,3 +39,17 @@ at-state k row q = getD row q (k .zero)
 -- the whole row step, for n states
 abbrev pub stepped : {W : Type 0} → Kind W → List (Edge W) → ℕ → List W → Quadrant → List W
 stepped k arcs n row d = map (gathered k arcs (at-state k row) d) (counting 0 n)
+
+-- the whole column step, for n states
+abbrev pub spreads : {W : Type 0} → Kind W → List (Edge W) → ℕ → List W → Quadrant → List W
+spreads k arcs n column d = map (spread k arcs (at-state k column) d) (counting 0 n)
+
+-- a row taken along an address
+abbrev pub carried : {W : Type 0} → Kind W → List (Edge W) → ℕ → Address → List W → List W
+carried k arcs n [] row = row
+carried k arcs n (d ∷ w) row = carried k arcs n w (stepped k arcs n row d)
+
+-- the column that a column becomes along an address
+abbrev pub backed : {W : Type 0} → Kind W → List (Edge W) → ℕ → Address → List W → List W
+backed k arcs n [] column = column
+backed k arcs n (d ∷ w) column = spreads k arcs n (backed k arcs n w column) d

@@ -1,5 +1,5 @@
 ghost use mathlib.Core.Path.{_≡_};
-ghost use Rattle.picture.specs.Quadrants.{digit, quadrant};
+ghost use Rattle.picture.specs.Quadrants.{digit, quadrant, named, same};
 
 /// A quarter of a square. An address names it by its digit, 0 to 3 in this order.
 #[derive(Clone, Copy, Debug, PartialEq)]
@@ -29,5 +29,24 @@ impl Quadrant {
             3 => Some(Quadrant::LowerRight),
             _ => None,
         }
+    }
+
+    /// The quadrant that a number below 4 names, and upper left for any other.
+    pub fn named(number: usize) -> Quadrant
+        ensures { λ r. ⌜ r ≡ named number ⌝ }
+    {
+        match number {
+            1 => Quadrant::UpperRight,
+            2 => Quadrant::LowerLeft,
+            3 => Quadrant::LowerRight,
+            _ => Quadrant::UpperLeft,
+        }
+    }
+
+    /// Whether both are the same quadrant.
+    pub fn is(self, other: Quadrant) -> bool
+        ensures { λ r. ⌜ r ≡ same self other ⌝ }
+    {
+        self.digit() == other.digit()
     }
 }

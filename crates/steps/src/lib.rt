@@ -1,0 +1,8 @@
+//! Rows of weights, taken through the arcs of a body.
+mod rows;
+
+pub use rows::advance;
+pub use rows::gather;
+pub use rows::gather_back;
+pub use rows::meet;
+pub use rows::retreat;
