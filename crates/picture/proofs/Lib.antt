@@ -1,3 +1,4 @@
+pub mod Carries
 pub mod States
 pub mod Values
 pub mod Storing

@@ -1,22 +1,45 @@
 ghost use mathlib.Core.Path.{_≡_};
 ghost use lib.ListN.{length};
 ghost use Rattle.picture.specs.Steps.{stepped, spreads};
-ghost use Rattle.tile.specs.Automata.{edges, Ready};
+ghost use Rattle.picture.specs.Stored.{stored, Kept};
+ghost use Rattle.tile.specs.Automata.{body, edges, Ready};
 use picture::Arc;
 use picture::Quadrant;
+use picture::Record;
 use steps::advance;
 use steps::retreat;
 use weight::Weight;
 
-/// The arcs of a body with their weights, made ready for row and column steps.
+/// A stored body, taken apart for row and column steps.
 #[derive(Clone, Copy)]
 pub struct Automaton<'a, W> {
     pub states: usize,
+    pub first: &'a [W],
+    pub last: &'a [W],
     pub arcs: &'a [Arc],
     pub weights: &'a [W],
 }
 
-impl<W: Weight> Automaton<'_, W> {
+impl<'a, W: Weight> Automaton<'a, W> {
+    /// The body that a place's record and its weights hold.
+    pub fn new(place: &'a Record, weights: &'a [W]) -> Automaton<'a, W>
+        requires kept { ⌜ Kept (now place) ⌝ }
+        requires room { ⌜ length (now weights) ≡ 640 ⌝ }
+        ensures body { λ r. ⌜ body r ≡ stored (now (place .entry)) (now (weights .entry)) ⌝ }
+        ensures ready { λ r. ⌜ Ready r ⌝ }
+    {
+        let n = place.states as usize;
+        let m = place.count as usize;
+        let arcs = &place.arcs[..];
+        Automaton {
+            states: n,
+            first: &weights[0..n],
+            last: &weights[64..64 + n],
+            arcs: &arcs[0..m],
+            weights: &weights[128..128 + m],
+        }
+    }
+
     /// A row times the digit's matrix.
     pub fn step_row(&self, row: &[W], quadrant: Quadrant, next: &mut [W])
         requires ready { ⌜ Ready (now self) ⌝ }

@@ -1,4 +1,9 @@
 //! Cells and tiles of a body in lent memory.
 mod automaton;
+mod bands;
+mod cells;
+mod columns;
+mod powers;
+mod slots;
 
 pub use automaton::Automaton;

@@ -1,0 +1,6 @@
+pub mod Bits
+pub mod Lifts
+pub mod Rows
+pub mod Grids
+pub mod Joins
+pub mod Squares
