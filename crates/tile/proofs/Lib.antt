@@ -1,5 +1,6 @@
 pub mod Bits
 pub mod Lifts
+pub mod Meets
 pub mod Rows
 pub mod Grids
 pub mod Joins

@@ -35,6 +35,9 @@ four-pos j = one-le-pow j 4 (lit< tt)
 pub part-fits : (i m n : ℕ) → i < m → i * n + n ≤ m * n
 part-fits i m n h = omega (arith, mul-le (suc i) n m n (omega arith) (omega arith), suc-mul i n)
 
+pub part-room : (i m n high wide len : ℕ) → high ≡ m → wide ≡ n → len ≡ m * n → i < high → i * wide + wide ≤ len
+part-room i m n high wide len e f l h = omega (arith, part-fits i high wide h, ap₂ _*_ e f)
+
 parts-more : {W : Type 0} (f : ℕ → List W) (i : ℕ) → joined f (counting 0 (i + 1)) ≡ joined f (counting 0 i) ++ f i
 parts-more f i = ap (joined f) (counting-more i) ∙ sym (joined-more f [] (counting 0 i) i)
 

@@ -1,13 +1,14 @@
 -- Rows and columns of weights laid out one after the other, n weights each.
-use mathlib.Core.List.{List}
+use mathlib.Core.List.{List, map}
 use Prim.Native.Nat.{ℕ, zero, suc, _+_, _*_, _^_}
 use Rattle.std.specs.Holes.{between}
 use Rattle.std.specs.Iters.{counting}
 use Rattle.std.specs.Joined.{joined}
 use Rattle.weight.specs.Kinds.{Kind}
 use Rattle.weight.specs.Sums.{total}
-use Rattle.picture.specs.Bodies.{Edge}
+use Rattle.picture.specs.Bodies.{Body, Edge}
 use Rattle.picture.specs.Cells.{bit, cell, prefix}
+use Rattle.picture.specs.Pictures.{value}
 use Rattle.picture.specs.Steps.{at-state, carried, backed}
 
 -- the i-th row or column
@@ -31,3 +32,7 @@ module _ {W : Type 0} (k : Kind W) (arcs : List (Edge W)) (n : ℕ) where
 abbrev pub interleaved : ℕ → ℕ → ℕ → ℕ
 interleaved zero x y = 0
 interleaved (suc j) x y = (bit j x + 2 * bit j y) * 4 ^ j + interleaved j x y
+
+-- row y of the cells at a depth that a row of weights gives
+abbrev pub cells-in-row : {W : Type 0} → Kind W → Body W → List W → ℕ → ℕ → List W
+cells-in-row k b row depth y = map (λ x. value k b (at-state k row) (cell depth x y)) (counting 0 (2 ^ depth))

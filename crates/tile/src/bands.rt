@@ -1,13 +1,14 @@
 //! Rows along the cells of a band, and columns along short addresses.
 ghost use mathlib.Core.Path.{_≡_};
-ghost use mathlib.Core.List.{map};
-ghost use Prim.Native.Nat.{_+_, _*_, _/_, _^_, _≤_, _<_};
+ghost use Prim.Native.Nat.{_+_, _*_, _^_, _≤_, _<_};
 ghost use lib.ListN.{length};
 ghost use Rattle.std.specs.Iters.{counting};
-ghost use Rattle.picture.specs.Cells.{cell, prefix};
-ghost use Rattle.tile.specs.Automata.{edges, Ready};
-ghost use Rattle.tile.specs.Bands.{rows-along};
+ghost use Rattle.std.specs.Joined.{joined};
+ghost use Rattle.tile.specs.Automata.{body, edges, Ready};
+ghost use Rattle.tile.specs.Bands.{rows-along, columns-along, cells-in-row};
 use crate::automaton::Automaton;
+use crate::cells::line;
+use crate::powers::side;
 use picture::MAX_STATES;
 use picture::Quadrant;
 use weight::Weight;
@@ -34,5 +35,27 @@ impl<W: Weight> Automaton<'_, W> {
         self.carry(next, depth - 1, y, rest, &mut rows[0..half]);
         self.step_row(row, Quadrant::named(1 + lower), next);
         self.carry(next, depth - 1, y, rest, &mut rows[half..half + half]);
+    }
+
+    /// Writes the rows of cells that share the row `y` of their coarse digits. `rows` has room for sixteen rows.
+    pub(crate) fn band(&self, row: &[W], columns: &[W], coarse: u8, fine: u8, y: usize, way: &mut [W], rows: &mut [W], cells: &mut [W])
+        requires ready { ⌜ Ready (now self) ⌝ }
+        requires row { ⌜ length (now row) ≡ now self .states ⌝ }
+        requires columns { ⌜ now columns ≡ columns-along kind (edges (now self)) (now self .states) (now (now self .last)) fine ⌝ }
+        requires coarse { ⌜ coarse ≤ 4 ⌝ }
+        requires fine { ⌜ fine ≤ 2 ⌝ }
+        requires y { ⌜ y < 2 ^ coarse ⌝ }
+        requires way { ⌜ length (now way) ≡ 64 * coarse ⌝ }
+        requires rows { ⌜ length (now rows) ≡ 2 ^ coarse * now self .states ⌝ }
+        requires cells { ⌜ length (now cells) ≡ 2 ^ fine * 2 ^ (coarse + fine) ⌝ }
+        ensures { λ _. ⌜ now (cells .exit) ≡ joined (λ i. cells-in-row kind (body (now (self .entry))) (now (row .entry)) (coarse + fine) (y * 2 ^ fine + i)) (counting 0 (2 ^ fine)) ⌝ }
+    {
+        self.carry(row, coarse, y, way, rows);
+        let high = side(fine);
+        let wide = side(coarse + fine);
+        for i in 0..high {
+            let part = &mut cells[i * wide..i * wide + wide];
+            line(rows, columns, self.states, coarse, fine, y * high + i, part);
+        }
     }
 }
