@@ -13,10 +13,10 @@ abbrev pub cell : ℕ → ℕ → ℕ → Address
 cell zero x y = []
 cell (suc k) x y = named (bit k x + 2 * bit k y) ∷ cell k x y
 
--- j digits read in base 4, the coarsest highest
-abbrev pub prefix : ℕ → ℕ → Address
-prefix zero n = []
-prefix (suc j) n = named (n / 4 ^ j % 4) ∷ prefix j n
+-- the j digits of a number in base 4, the coarsest highest
+abbrev pub base-four : ℕ → ℕ → Address
+base-four zero n = []
+base-four (suc j) n = named (n / 4 ^ j % 4) ∷ base-four j n
 
 -- row y of the cells at depth k below a prefix
 abbrev pub row-of-cells : Address → ℕ → ℕ → List Address
@@ -28,7 +28,7 @@ cells-below u k = joined (row-of-cells u k) (counting 0 (2 ^ k))
 
 -- the cells at a depth under the prefix of j digits with number n
 abbrev pub tile : (depth j n : ℕ) → List Address
-tile depth j n = cells-below (prefix j n) (depth - j)
+tile depth j n = cells-below (base-four j n) (depth - j)
 
 -- Depth at most 12, a prefix no longer than the depth, a tile depth of at most 6, a prefix below 4 to its length.
 pub record Printable (depth j n : ℕ) : Type 0 where

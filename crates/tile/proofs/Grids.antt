@@ -6,7 +6,7 @@ use native.Mathlib.Nat.{pow-suc, suc-add, zero-add, add-comm, div-lt-iff-lt-mul}
 use native.Mathlib.Omega.{arith}
 use lib.Pow.{pow-add, pow-pos, shr-shr}
 use Rattle.std.proofs.shelf.Bits.{mul-le}
-use Rattle.picture.specs.Cells.{bit, cell, prefix}
+use Rattle.picture.specs.Cells.{bit, cell, base-four}
 use Rattle.picture.specs.Quadrants.{named}
 use Rattle.tile.specs.Bands.{interleaved}
 use Rattle.tile.proofs.Squares.{part-fits}
@@ -18,7 +18,7 @@ interleaved-below (suc j) x y =
     let d : bit j x + 2 * bit j y ≤ 3 = omega arith in
     omega (arith, mul-le (bit j x + 2 * bit j y) (4 ^ j) 3 (4 ^ j) d (omega arith), pow-suc 4 j)
 
-pub prefix-interleaved : (j x y : ℕ) → j ≤ 2 → prefix j (interleaved j x y) ≡ cell j x y
+pub prefix-interleaved : (j x y : ℕ) → j ≤ 2 → base-four j (interleaved j x y) ≡ cell j x y
 prefix-interleaved zero x y h = refl
 prefix-interleaved (suc zero) x y h =
     let e : interleaved 1 x y / 1 % 4 ≡ bit 0 x + 2 * bit 0 y = omega arith in

@@ -1,8 +1,9 @@
 -- Equally long parts, one after the other.
 use mathlib.Core.Path.{_≡_, refl, sym, ap, ap₂, _∙_}
-use mathlib.Core.List.{List, [], _∷_, _++_, append-assoc}
+use mathlib.Core.List.{List, [], _∷_, _++_, append-assoc, append-nil}
 use Prim.Native.Nat.{ℕ, zero, suc, _+_, _-_, _*_, _<_, _≤_}
 use native.Mathlib.Nat.{add-assoc, add-zero, zero-add, zero-mul, suc-mul}
+use native.Mathlib.Numerals.{add-one}
 use native.Mathlib.Omega.{arith}
 use lib.ListN.{length, take, drop, length-append}
 use Rattle.std.specs.Iters.{counting}
@@ -49,15 +50,21 @@ module _ {W : Type 0} where
       let before = joined f (counting 0 i) in
       let split : joined f (counting 0 n) ≡ before ++ (f i ++ rest) =
         ap (λ z. joined f (counting 0 z)) (omega arith) ∙ joined-add f (i + 1) (n - (i + 1))
-        ∙ ap (λ zs. zs ++ rest) (joined-add f i 1 ∙ ap (λ zs. before ++ zs) (ap (λ z. f z ++ []) (add-zero i) ∙ sym (nil-right (f i))))
+        ∙ ap (λ zs. zs ++ rest) (joined-add f i 1 ∙ ap (λ zs. before ++ zs) (ap (λ z. f z ++ []) (add-zero i) ∙ append-nil (f i)))
         ∙ append-assoc before (f i) rest in
       let long : length before ≡ i * s = length-joined f s i (λ j l. e j (omega arith)) in
       ap₂ (λ z xs. take z (drop (i * s) xs)) (omega arith) split
       ∙ ap (take s) (drop-at before (f i ++ rest) (i * s) long) ∙ take-at (f i) rest s (e i h)
-    where
-      nil-right : (xs : List W) → xs ≡ xs ++ []
-      nil-right [] = refl
-      nil-right (x ∷ xs) = ap (λ zs. x ∷ zs) (nil-right xs)
+
+  -- parts of parts
+  pub joined-product : (f : ℕ → List W) (s n : ℕ) → joined (λ a. joined (λ b. f (a * s + b)) (counting 0 s)) (counting 0 n) ≡ joined f (counting 0 (n * s))
+  joined-product f s zero = ap (λ z. joined f (counting 0 z)) (sym (zero-mul s))
+  joined-product f s (suc n) =
+      ap (λ z. joined (λ a. joined (λ b. f (a * s + b)) (counting 0 s)) (counting 0 z)) (sym (add-one n))
+      ∙ joined-add (λ a. joined (λ b. f (a * s + b)) (counting 0 s)) n 1
+      ∙ ap₂ _++_ (joined-product f s n) (append-nil _ ∙ ap (λ z. joined (λ b. f (z * s + b)) (counting 0 s)) (add-zero n))
+      ∙ sym (joined-add f (n * s) s)
+      ∙ ap (λ z. joined f (counting 0 z)) (sym (suc-mul n s))
 
   pub length-slot : (n i : ℕ) (xs : List W) → i * n + n ≤ length xs → length (slot n i xs) ≡ n
   length-slot n i xs h = length-between xs (i * n) (i * n + n) h ∙ omega arith

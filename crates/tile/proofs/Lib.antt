@@ -5,3 +5,4 @@ pub mod Rows
 pub mod Grids
 pub mod Joins
 pub mod Squares
+pub mod Tops

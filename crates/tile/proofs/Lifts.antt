@@ -10,7 +10,7 @@ use Rattle.std.specs.Iters.{counting}
 use Rattle.std.specs.Joined.{joined}
 use Rattle.weight.specs.Kinds.{Kind}
 use Rattle.picture.specs.Bodies.{Edge}
-use Rattle.picture.specs.Cells.{prefix}
+use Rattle.picture.specs.Cells.{base-four}
 use Rattle.picture.specs.Quadrants.{named}
 use Rattle.picture.specs.Steps.{spreads, backed}
 use Rattle.picture.proofs.Carries.{length-backed}
@@ -38,7 +38,7 @@ pub lift-small : (c j count n : ℕ) → count ≡ 4 ^ j → j ≤ 1 → c < 4 *
 lift-small c j count n e few h l = omega (arith, four-le j few, part-fits c 16 n (omega (arith, four-le j few)))
 
 -- the lower digits of a number are those of its remainder
-prefix-rest : (j c : ℕ) → j ≤ 1 → prefix j (c % 4 ^ j) ≡ prefix j c
+prefix-rest : (j c : ℕ) → j ≤ 1 → base-four j (c % 4 ^ j) ≡ base-four j c
 prefix-rest zero c h = refl
 prefix-rest (suc zero) c h = let e : c % 4 / 1 % 4 ≡ c / 1 % 4 = omega arith in ap (λ z. named z ∷ []) e
 prefix-rest (suc (suc j)) c h = absurd (omega arith)
@@ -66,10 +66,10 @@ module _ {W : Type 0} (k : Kind W) (arcs : List (Edge W)) (n : ℕ) (columns : L
       f ∙ joined-below _ _ (4 ^ (j + 1)) (λ c h.
           ap₂ (spreads k arcs n)
           (ap (slot n (c % 4 ^ j)) e
-           ∙ slot-joined (λ c. backed k arcs n (prefix j c) column) n (4 ^ j) (c % 4 ^ j) (λ i l. length-backed k arcs n (prefix j i) column long) (mod-lt c (four-pos j))
+           ∙ slot-joined (λ c. backed k arcs n (base-four j c) column) n (4 ^ j) (c % 4 ^ j) (λ i l. length-backed k arcs n (base-four j i) column long) (mod-lt c (four-pos j))
            ∙ ap (λ w. backed k arcs n w column) (prefix-rest j c few))
           (ap named (first-digit j c few h))
-          ∙ ap (λ z. backed k arcs n (prefix z c) column) (sym (add-one j)))
+          ∙ ap (λ z. backed k arcs n (base-four z c) column) (sym (add-one j)))
 
 pub no-digits : {W : Type 0} (k : Kind W) (arcs : List (Edge W)) (n : ℕ) (column : List W) → column ≡ columns-along k arcs n column 0
 no-digits k arcs n column = sym (append-nil column)

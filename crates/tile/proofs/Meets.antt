@@ -7,7 +7,7 @@ use lib.ListN.{length}
 use Rattle.std.specs.Iters.{counting}
 use Rattle.weight.specs.Kinds.{Kind, Laws}
 use Rattle.picture.specs.Bodies.{Body, Edge, Sound}
-use Rattle.picture.specs.Cells.{cell, prefix}
+use Rattle.picture.specs.Cells.{cell, base-four}
 use Rattle.picture.specs.Pictures.{value}
 use Rattle.picture.specs.Steps.{at-state, carried, backed}
 use Rattle.picture.proofs.Carries.{length-carried, length-backed, value-meets}
@@ -16,7 +16,7 @@ use Rattle.tile.proofs.Grids.{interleaved-below, prefix-interleaved, cell-spli
 use Rattle.tile.proofs.Joins.{length-joined, slot-joined}
 
 pub length-columns : {W : Type 0} (k : Kind W) (arcs : List (Edge W)) (n : ℕ) (column columns : List W) (l : ℕ) → length column ≡ n → columns ≡ columns-along k arcs n column l → length columns ≡ 4 ^ l * n
-length-columns k arcs n column columns l long e = ap length e ∙ length-joined _ n (4 ^ l) (λ i h. length-backed k arcs n (prefix l i) column long)
+length-columns k arcs n column columns l long e = ap length e ∙ length-joined _ n (4 ^ l) (λ i h. length-backed k arcs n (base-four l i) column long)
 
 map-from : {W : Type 0} (f g : ℕ → W) (a n : ℕ) → ((i : ℕ) → a ≤ i → i < a + n → f i ≡ g i) → map f (counting a n) ≡ map g (counting a n)
 map-from f g a zero e = refl
@@ -36,7 +36,7 @@ module _ {W : Type 0} {k : Kind W} (laws : Laws k) (b : Body W) (sound : Sound b
           (ap (slot (b .states) (x / 2 ^ f)) er
            ∙ slot-joined (λ x. carried k (b .arcs) (b .states) (cell c x y) row) (b .states) (2 ^ c) (x / 2 ^ f) (λ i l. length-carried k (b .arcs) (b .states) (cell c i y) row long) (coarse-below c f x h))
           (ap (slot (b .states) (interleaved f x z)) ec
-           ∙ slot-joined (λ i. backed k (b .arcs) (b .states) (prefix f i) (b .last)) (b .states) (4 ^ f) (interleaved f x z) (λ i l. length-backed k (b .arcs) (b .states) (prefix f i) (b .last) (sound .lasts)) (interleaved-below f x z)
+           ∙ slot-joined (λ i. backed k (b .arcs) (b .states) (base-four f i) (b .last)) (b .states) (4 ^ f) (interleaved f x z) (λ i l. length-backed k (b .arcs) (b .states) (base-four f i) (b .last) (sound .lasts)) (interleaved-below f x z)
            ∙ ap (λ w. backed k (b .arcs) (b .states) w (b .last)) (prefix-interleaved f x z few))
           ∙ value-meets laws b sound (cell c (x / 2 ^ f) y) (cell f x z) row
           ∙ ap (value k b (at-state k row)) (ap (λ v. cell c (x / 2 ^ f) v ++ cell f x z) (sym e) ∙ cell-split c f x z))

@@ -2,7 +2,7 @@
 use mathlib.Core.Path.{_≡_, refl, sym, ap, ap₂, _∙_}
 use mathlib.Core.List.{List, [], _∷_, _++_}
 use Prim.Native.Nat.{ℕ, zero, suc, _+_, _-_, _*_, _%_, _^_, _<_, _≤_}
-use native.Mathlib.Nat.{two-pow-succ, pow-suc, one-le-pow, suc-mul, zero-add}
+use native.Mathlib.Nat.{two-pow-succ, pow-suc, one-le-pow, suc-mul, mul-assoc}
 use native.Mathlib.Omega.{arith}
 use borrow.Author.Needs.{needs}
 use borrow.Rule.Slice.PartMut.{putMid}
@@ -38,7 +38,7 @@ part-fits i m n h = omega (arith, mul-le (suc i) n m n (omega arith) (omega arit
 pub part-room : (i m n high wide len : ℕ) → high ≡ m → wide ≡ n → len ≡ m * n → i < high → i * wide + wide ≤ len
 part-room i m n high wide len e f l h = omega (arith, part-fits i high wide h, ap₂ _*_ e f)
 
-parts-more : {W : Type 0} (f : ℕ → List W) (i : ℕ) → joined f (counting 0 (i + 1)) ≡ joined f (counting 0 i) ++ f i
+pub parts-more : {W : Type 0} (f : ℕ → List W) (i : ℕ) → joined f (counting 0 (i + 1)) ≡ joined f (counting 0 i) ++ f i
 parts-more f i = ap (joined f) (counting-more i) ∙ sym (joined-more f [] (counting 0 i) i)
 
 length-putMid : {X : Type 0} (a m : ℕ) (xs ys : List X) → a + m ≤ length xs → length ys ≡ m → length (putMid a m xs ys) ≡ length xs
@@ -56,3 +56,28 @@ part-written f i n out part h l e p =
 
 pub all-written : {W : Type 0} (f : ℕ → List W) (m n : ℕ) (out : List W) → length out ≡ m * n → take (m * n) out ≡ joined f (counting 0 m) → out ≡ joined f (counting 0 m)
 all-written f m n out l e = sym (take-all (m * n) out (omega arith)) ∙ e
+
+-- rows and columns of a tile fit their room
+pub columns-small : (j n : ℕ) → j ≤ 2 → n ≤ 64 → 4 ^ j * n ≤ 1024
+columns-small j n h l = mul-le (4 ^ j) n 16 64 (four-small j h) l
+  where
+    four-small : (j : ℕ) → j ≤ 2 → 4 ^ j ≤ 16
+    four-small zero h = omega arith
+    four-small (suc zero) h = omega arith
+    four-small (suc (suc zero)) h = omega arith
+    four-small (suc (suc (suc j))) h = absurd (omega arith)
+
+pub rows-small : (j n : ℕ) → j ≤ 4 → n ≤ 64 → 2 ^ j * n ≤ 1024
+rows-small j n h l = mul-le (2 ^ j) n 16 64 (two-small j h) l
+  where
+    two-small : (j : ℕ) → j ≤ 4 → 2 ^ j ≤ 16
+    two-small zero h = omega arith
+    two-small (suc zero) h = omega arith
+    two-small (suc (suc zero)) h = omega arith
+    two-small (suc (suc (suc zero))) h = omega arith
+    two-small (suc (suc (suc (suc zero)))) h = omega arith
+    two-small (suc (suc (suc (suc (suc j))))) h = absurd (omega arith)
+
+-- a square of cells is so many bands
+pub bands-fill : (c f depth : ℕ) → c + f ≡ depth → 2 ^ depth * 2 ^ depth ≡ 2 ^ c * (2 ^ f * 2 ^ depth)
+bands-fill c f depth e = ap (λ z. z * 2 ^ depth) (ap (λ z. 2 ^ z) (sym e) ∙ pow-add 2 c f) ∙ mul-assoc (2 ^ c) (2 ^ f) (2 ^ depth)

@@ -7,7 +7,7 @@ use Rattle.std.specs.Joined.{joined}
 use Rattle.weight.specs.Kinds.{Kind}
 use Rattle.weight.specs.Sums.{total}
 use Rattle.picture.specs.Bodies.{Body, Edge}
-use Rattle.picture.specs.Cells.{bit, cell, prefix}
+use Rattle.picture.specs.Cells.{bit, cell, base-four}
 use Rattle.picture.specs.Pictures.{value}
 use Rattle.picture.specs.Steps.{at-state, carried, backed}
 
@@ -26,7 +26,7 @@ module _ {W : Type 0} (k : Kind W) (arcs : List (Edge W)) (n : ℕ) where
 
   -- what a column becomes along each address of l digits, in the order of their numbers
   abbrev pub columns-along : List W → ℕ → List W
-  columns-along column l = joined (λ c. backed k arcs n (prefix l c) column) (counting 0 (4 ^ l))
+  columns-along column l = joined (λ c. backed k arcs n (base-four l c) column) (counting 0 (4 ^ l))
 
 -- the number whose digits in base 4 are those of a cell: bit j of x plus twice bit j of y
 abbrev pub interleaved : ℕ → ℕ → ℕ → ℕ

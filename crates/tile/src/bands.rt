@@ -38,7 +38,7 @@ impl<W: Weight> Automaton<'_, W> {
     }
 
     /// Writes the rows of cells that share the row `y` of their coarse digits. `rows` has room for sixteen rows.
-    pub(crate) fn band(&self, row: &[W], columns: &[W], coarse: u8, fine: u8, y: usize, way: &mut [W], rows: &mut [W], cells: &mut [W])
+    fn band(&self, row: &[W], columns: &[W], coarse: u8, fine: u8, y: usize, way: &mut [W], rows: &mut [W], cells: &mut [W])
         requires ready { ⌜ Ready (now self) ⌝ }
         requires row { ⌜ length (now row) ≡ now self .states ⌝ }
         requires columns { ⌜ now columns ≡ columns-along kind (edges (now self)) (now self .states) (now (now self .last)) fine ⌝ }
@@ -56,6 +56,26 @@ impl<W: Weight> Automaton<'_, W> {
         for i in 0..high {
             let part = &mut cells[i * wide..i * wide + wide];
             line(rows, columns, self.states, coarse, fine, y * high + i, part);
+        }
+    }
+
+    /// Writes all rows of cells, band by band.
+    pub(crate) fn bands(&self, row: &[W], columns: &[W], coarse: u8, fine: u8, way: &mut [W], rows: &mut [W], cells: &mut [W])
+        requires ready { ⌜ Ready (now self) ⌝ }
+        requires row { ⌜ length (now row) ≡ now self .states ⌝ }
+        requires columns { ⌜ now columns ≡ columns-along kind (edges (now self)) (now self .states) (now (now self .last)) fine ⌝ }
+        requires coarse { ⌜ coarse ≤ 4 ⌝ }
+        requires fine { ⌜ fine ≤ 2 ⌝ }
+        requires way { ⌜ length (now way) ≡ 64 * coarse ⌝ }
+        requires rows { ⌜ length (now rows) ≡ 2 ^ coarse * now self .states ⌝ }
+        requires cells { ⌜ length (now cells) ≡ 2 ^ coarse * (2 ^ fine * 2 ^ (coarse + fine)) ⌝ }
+        ensures { λ _. ⌜ now (cells .exit) ≡ joined (cells-in-row kind (body (now (self .entry))) (now (row .entry)) (coarse + fine)) (counting 0 (2 ^ (coarse + fine))) ⌝ }
+    {
+        let size = side(fine) * side(coarse + fine);
+        let count = side(coarse);
+        for y in 0..count {
+            let part = &mut cells[y * size..y * size + size];
+            self.band(row, columns, coarse, fine, y, way, rows, part);
         }
     }
 }

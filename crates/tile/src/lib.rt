@@ -5,5 +5,6 @@ mod cells;
 mod columns;
 mod powers;
 mod slots;
+mod tiles;
 
 pub use automaton::Automaton;

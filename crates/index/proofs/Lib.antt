@@ -1,0 +1,4 @@
+pub mod Placed
+pub mod Sorting
+pub mod Parts
+pub mod Additions
