@@ -4,7 +4,10 @@ mod bands;
 mod cells;
 mod columns;
 mod powers;
+mod printing;
 mod slots;
 mod tiles;
 
 pub use automaton::Automaton;
+pub use printing::Fault;
+pub use printing::print;
