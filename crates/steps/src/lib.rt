@@ -3,6 +3,4 @@ mod rows;
 
 pub use rows::advance;
 pub use rows::gather;
-pub use rows::gather_back;
 pub use rows::meet;
-pub use rows::retreat;

@@ -4,7 +4,7 @@ ghost use lib.ListN.{length};
 ghost use Rattle.std.specs.Finite.{zipped};
 ghost use Rattle.std.specs.Iters.{counting};
 ghost use Rattle.std.specs.shelf.Lists.{All};
-ghost use Rattle.picture.specs.Steps.{gathered, spread, stepped, spreads, at-state};
+ghost use Rattle.picture.specs.Steps.{gathered, stepped, at-state};
 ghost use Rattle.weight.specs.Sums.{total};
 use picture::Arc;
 use picture::Quadrant;
@@ -26,7 +26,13 @@ pub fn gather<W: Weight>(arcs: &[Arc], weights: &[W], row: &[W], quadrant: Quadr
 }
 
 /// A row times the digit's matrix.
-pub fn advance<W: Weight>(arcs: &[Arc], weights: &[W], row: &[W], quadrant: Quadrant, next: &mut [W])
+pub fn advance<W: Weight>(
+    arcs: &[Arc],
+    weights: &[W],
+    row: &[W],
+    quadrant: Quadrant,
+    next: &mut [W],
+)
     requires { ⌜ All (λ e. e .0 .from < length (now row)) (zipped (now arcs) (now weights)) ⌝ }
     ensures { λ _. ⌜ now (next .exit) ≡ stepped kind (zipped (now (arcs .entry)) (now (weights .entry))) (length (now (next .entry))) (now (row .entry)) quadrant ⌝ }
 {
@@ -45,29 +51,4 @@ pub fn meet<W: Weight>(row: &[W], column: &[W]) -> W
         sum = sum.plus(row[q].times(column[q]));
     }
     sum
-}
-
-/// One entry of the digit's matrix times a column: the sum, over the arcs that leave state `p` with the digit, of the
-/// arc's weight times the column's at the arc's end.
-pub fn gather_back<W: Weight>(arcs: &[Arc], weights: &[W], column: &[W], quadrant: Quadrant, p: usize) -> W
-    requires { ⌜ All (λ e. e .0 .to < length (now column)) (zipped (now arcs) (now weights)) ⌝ }
-    ensures { λ r. ⌜ r ≡ spread kind (zipped (now (arcs .entry)) (now (weights .entry))) (at-state kind (now (column .entry))) quadrant p ⌝ }
-{
-    let mut sum = W::zero();
-    for (arc, weight) in arcs.iter().zip(weights) {
-        if arc.from as usize == p && arc.quadrant.is(quadrant) {
-            sum = sum.plus(weight.times(column[arc.to as usize]));
-        }
-    }
-    sum
-}
-
-/// The digit's matrix times a column.
-pub fn retreat<W: Weight>(arcs: &[Arc], weights: &[W], column: &[W], quadrant: Quadrant, next: &mut [W])
-    requires { ⌜ All (λ e. e .0 .to < length (now column)) (zipped (now arcs) (now weights)) ⌝ }
-    ensures { λ _. ⌜ now (next .exit) ≡ spreads kind (zipped (now (arcs .entry)) (now (weights .entry))) (length (now (next .entry))) (now (column .entry)) quadrant ⌝ }
-{
-    for p in 0..next.len() {
-        next[p] = gather_back(arcs, weights, column, quadrant, p);
-    }
 }

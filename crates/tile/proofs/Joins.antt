@@ -49,9 +49,9 @@ module _ {W : Type 0} where
       let rest = joined (λ j. f (i + 1 + j)) (counting 0 (n - (i + 1))) in
       let before = joined f (counting 0 i) in
       let split : joined f (counting 0 n) ≡ before ++ (f i ++ rest) =
-        ap (λ z. joined f (counting 0 z)) (omega arith) ∙ joined-add f (i + 1) (n - (i + 1))
-        ∙ ap (λ zs. zs ++ rest) (joined-add f i 1 ∙ ap (λ zs. before ++ zs) (ap (λ z. f z ++ []) (add-zero i) ∙ append-nil (f i)))
-        ∙ append-assoc before (f i) rest in
+      ap (λ z. joined f (counting 0 z)) (omega arith) ∙ joined-add f (i + 1) (n - (i + 1))
+      ∙ ap (λ zs. zs ++ rest) (joined-add f i 1 ∙ ap (λ zs. before ++ zs) (ap (λ z. f z ++ []) (add-zero i) ∙ append-nil (f i)))
+      ∙ append-assoc before (f i) rest in
       let long : length before ≡ i * s = length-joined f s i (λ j l. e j (omega arith)) in
       ap₂ (λ z xs. take z (drop (i * s) xs)) (omega arith) split
       ∙ ap (take s) (drop-at before (f i ++ rest) (i * s) long) ∙ take-at (f i) rest s (e i h)

@@ -64,12 +64,12 @@ module _ {W : Type 0} (k : Kind W) (arcs : List (Edge W)) (n : ℕ) (columns : L
       → longer ≡ joined (lifted (4 ^ j)) (counting 0 (4 ^ (j + 1))) → longer ≡ columns-along k arcs n column (j + 1)
   lift-columns column longer few long e f =
       f ∙ joined-below _ _ (4 ^ (j + 1)) (λ c h.
-          ap₂ (spreads k arcs n)
-          (ap (slot n (c % 4 ^ j)) e
-           ∙ slot-joined (λ c. backed k arcs n (base-four j c) column) n (4 ^ j) (c % 4 ^ j) (λ i l. length-backed k arcs n (base-four j i) column long) (mod-lt c (four-pos j))
-           ∙ ap (λ w. backed k arcs n w column) (prefix-rest j c few))
-          (ap named (first-digit j c few h))
-          ∙ ap (λ z. backed k arcs n (base-four z c) column) (sym (add-one j)))
+      ap₂ (spreads k arcs n)
+      (ap (slot n (c % 4 ^ j)) e
+      ∙ slot-joined (λ c. backed k arcs n (base-four j c) column) n (4 ^ j) (c % 4 ^ j) (λ i l. length-backed k arcs n (base-four j i) column long) (mod-lt c (four-pos j))
+      ∙ ap (λ w. backed k arcs n w column) (prefix-rest j c few))
+      (ap named (first-digit j c few h))
+      ∙ ap (λ z. backed k arcs n (base-four z c) column) (sym (add-one j)))
 
 pub no-digits : {W : Type 0} (k : Kind W) (arcs : List (Edge W)) (n : ℕ) (column : List W) → column ≡ columns-along k arcs n column 0
 no-digits k arcs n column = sym (append-nil column)

@@ -32,11 +32,11 @@ module _ {W : Type 0} {k : Kind W} (laws : Laws k) (b : Body W) (sound : Sound b
       → xs ≡ cells-in-row k b row (c + f) z
   line-is rows columns xs z few e er ec ex =
       ex ∙ map-below _ _ (2 ^ (c + f)) (λ x h.
-          ap₂ (meeting k (b .states))
-          (ap (slot (b .states) (x / 2 ^ f)) er
-           ∙ slot-joined (λ x. carried k (b .arcs) (b .states) (cell c x y) row) (b .states) (2 ^ c) (x / 2 ^ f) (λ i l. length-carried k (b .arcs) (b .states) (cell c i y) row long) (coarse-below c f x h))
-          (ap (slot (b .states) (interleaved f x z)) ec
-           ∙ slot-joined (λ i. backed k (b .arcs) (b .states) (base-four f i) (b .last)) (b .states) (4 ^ f) (interleaved f x z) (λ i l. length-backed k (b .arcs) (b .states) (base-four f i) (b .last) (sound .lasts)) (interleaved-below f x z)
-           ∙ ap (λ w. backed k (b .arcs) (b .states) w (b .last)) (prefix-interleaved f x z few))
-          ∙ value-meets laws b sound (cell c (x / 2 ^ f) y) (cell f x z) row
-          ∙ ap (value k b (at-state k row)) (ap (λ v. cell c (x / 2 ^ f) v ++ cell f x z) (sym e) ∙ cell-split c f x z))
+      ap₂ (meeting k (b .states))
+      (ap (slot (b .states) (x / 2 ^ f)) er
+      ∙ slot-joined (λ x. carried k (b .arcs) (b .states) (cell c x y) row) (b .states) (2 ^ c) (x / 2 ^ f) (λ i l. length-carried k (b .arcs) (b .states) (cell c i y) row long) (coarse-below c f x h))
+      (ap (slot (b .states) (interleaved f x z)) ec
+      ∙ slot-joined (λ i. backed k (b .arcs) (b .states) (base-four f i) (b .last)) (b .states) (4 ^ f) (interleaved f x z) (λ i l. length-backed k (b .arcs) (b .states) (base-four f i) (b .last) (sound .lasts)) (interleaved-below f x z)
+      ∙ ap (λ w. backed k (b .arcs) (b .states) w (b .last)) (prefix-interleaved f x z few))
+      ∙ value-meets laws b sound (cell c (x / 2 ^ f) y) (cell f x z) row
+      ∙ ap (value k b (at-state k row)) (ap (λ v. cell c (x / 2 ^ f) v ++ cell f x z) (sym e) ∙ cell-split c f x z))

@@ -32,7 +32,7 @@ module _ {W : Type 0} (k : Kind W) (arcs : List (Edge W)) (n : ℕ) (row : List 
       ap₂ _++_
       (ex ∙ joined-below _ _ (2 ^ j) (λ x l. ap (carried k arcs n (cell j x y)) (el ∙ digit (2 * bit j y) (bit j x + 2 * bit j y) (omega (arith, bit-left j x l)))))
       (ey ∙ joined-below _ _ (2 ^ j) (λ x l.
-          ap₂ (carried k arcs n) (sym (cell-low j j x y (omega arith))) (er ∙ digit (1 + 2 * bit j y) (bit j (2 ^ j + x) + 2 * bit j y) (omega (arith, bit-right j x l)))))
+      ap₂ (carried k arcs n) (sym (cell-low j j x y (omega arith))) (er ∙ digit (1 + 2 * bit j y) (bit j (2 ^ j + x) + 2 * bit j y) (omega (arith, bit-right j x l)))))
       ∙ sym (joined-add (λ x. carried k arcs n (cell (suc j) x y) row) (2 ^ j) (2 ^ j))
       ∙ ap (λ z. joined (λ x. carried k arcs n (cell (suc j) x y) row) (counting 0 z)) (sym (two-pow-succ j))
       ∙ ap (λ h. rows-along k arcs n row h y) (sym e)

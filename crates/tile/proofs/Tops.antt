@@ -54,6 +54,6 @@ pub tile-is : {W : Type 0} (k : Kind W) (b : Body W) (row first cells : List W) 
     → cells ≡ joined (cells-in-row k b row depth) (counting 0 (2 ^ depth)) → cells ≡ map (picture k b) (cells-below u depth)
 tile-is k b row first cells u depth f h e =
     e ∙ ap (λ v. joined (λ y. map (λ x. v (cell depth x y)) (counting 0 (2 ^ depth))) (counting 0 (2 ^ depth)))
-          (fun-ext (λ w. h w ∙ ap (λ r. value k b (at-state k r) (u ++ w)) f))
+    (fun-ext (λ w. h w ∙ ap (λ r. value k b (at-state k r) (u ++ w)) f))
     ∙ ap (λ g. joined g (counting 0 (2 ^ depth))) (fun-ext (λ y. sym (map-map (picture k b) (λ x. u ++ cell depth x y) (counting 0 (2 ^ depth)))))
     ∙ sym (map-joined (picture k b) (row-of-cells u depth) (counting 0 (2 ^ depth)))

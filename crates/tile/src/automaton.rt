@@ -3,14 +3,17 @@ ghost use lib.ListN.{length};
 ghost use Rattle.picture.specs.Steps.{stepped, spreads};
 ghost use Rattle.picture.specs.Stored.{stored, Kept};
 ghost use Rattle.tile.specs.Automata.{body, edges, Ready};
+use index::End;
+use index::Index;
+use index::build;
+use index::step_column;
+use index::step_row;
 use picture::Arc;
 use picture::Quadrant;
 use picture::Record;
-use steps::advance;
-use steps::retreat;
 use weight::Weight;
 
-/// A stored body, taken apart for row and column steps.
+/// A stored body, taken apart for row and column steps, with its arcs indexed by digit and by either end.
 #[derive(Clone, Copy)]
 pub struct Automaton<'a, W> {
     pub states: usize,
@@ -18,6 +21,8 @@ pub struct Automaton<'a, W> {
     pub last: &'a [W],
     pub arcs: &'a [Arc],
     pub weights: &'a [W],
+    pub into: Index,
+    pub out_of: Index,
 }
 
 impl<'a, W: Weight> Automaton<'a, W> {
@@ -30,13 +35,16 @@ impl<'a, W: Weight> Automaton<'a, W> {
     {
         let n = place.states as usize;
         let m = place.count as usize;
-        let arcs = &place.arcs[..];
+        let all = &place.arcs[..];
+        let arcs = &all[0..m];
         Automaton {
             states: n,
             first: &weights[0..n],
             last: &weights[64..64 + n],
-            arcs: &arcs[0..m],
+            arcs,
             weights: &weights[128..128 + m],
+            into: build(arcs, End::To),
+            out_of: build(arcs, End::From),
         }
     }
 
@@ -47,7 +55,7 @@ impl<'a, W: Weight> Automaton<'a, W> {
         requires next { ⌜ length (now next) ≡ now self .states ⌝ }
         ensures { λ _. ⌜ now (next .exit) ≡ stepped kind (edges (now (self .entry))) (now (self .entry) .states) (now (row .entry)) quadrant ⌝ }
     {
-        advance(self.arcs, self.weights, row, quadrant, next);
+        step_row(&self.into, self.arcs, self.weights, row, quadrant, next);
     }
 
     /// The digit's matrix times a column.
@@ -57,6 +65,13 @@ impl<'a, W: Weight> Automaton<'a, W> {
         requires next { ⌜ length (now next) ≡ now self .states ⌝ }
         ensures { λ _. ⌜ now (next .exit) ≡ spreads kind (edges (now (self .entry))) (now (self .entry) .states) (now (column .entry)) quadrant ⌝ }
     {
-        retreat(self.arcs, self.weights, column, quadrant, next);
+        step_column(
+            &self.out_of,
+            self.arcs,
+            self.weights,
+            column,
+            quadrant,
+            next,
+        );
     }
 }

@@ -38,7 +38,17 @@ impl<W: Weight> Automaton<'_, W> {
     }
 
     /// Writes the rows of cells that share the row `y` of their coarse digits. `rows` has room for sixteen rows.
-    fn band(&self, row: &[W], columns: &[W], coarse: u8, fine: u8, y: usize, way: &mut [W], rows: &mut [W], cells: &mut [W])
+    fn band(
+        &self,
+        row: &[W],
+        columns: &[W],
+        coarse: u8,
+        fine: u8,
+        y: usize,
+        way: &mut [W],
+        rows: &mut [W],
+        cells: &mut [W],
+    )
         requires ready { ⌜ Ready (now self) ⌝ }
         requires row { ⌜ length (now row) ≡ now self .states ⌝ }
         requires columns { ⌜ now columns ≡ columns-along kind (edges (now self)) (now self .states) (now (now self .last)) fine ⌝ }
@@ -60,7 +70,16 @@ impl<W: Weight> Automaton<'_, W> {
     }
 
     /// Writes all rows of cells, band by band.
-    pub(crate) fn bands(&self, row: &[W], columns: &[W], coarse: u8, fine: u8, way: &mut [W], rows: &mut [W], cells: &mut [W])
+    pub(crate) fn bands(
+        &self,
+        row: &[W],
+        columns: &[W],
+        coarse: u8,
+        fine: u8,
+        way: &mut [W],
+        rows: &mut [W],
+        cells: &mut [W],
+    )
         requires ready { ⌜ Ready (now self) ⌝ }
         requires row { ⌜ length (now row) ≡ now self .states ⌝ }
         requires columns { ⌜ now columns ≡ columns-along kind (edges (now self)) (now self .states) (now (now self .last)) fine ⌝ }

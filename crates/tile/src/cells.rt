@@ -23,7 +23,15 @@ fn interleave(digits: u8, x: usize, y: usize) -> usize
 }
 
 /// Writes row `y` of the cells, each the row along its coarse digits times the column along its fine ones.
-pub(crate) fn line<W: Weight>(rows: &[W], columns: &[W], states: usize, coarse: u8, fine: u8, y: usize, cells: &mut [W])
+pub(crate) fn line<W: Weight>(
+    rows: &[W],
+    columns: &[W],
+    states: usize,
+    coarse: u8,
+    fine: u8,
+    y: usize,
+    cells: &mut [W],
+)
     requires few { ⌜ fine ≤ 2 ⌝ }
     requires rows { ⌜ length (now rows) ≡ 2 ^ coarse * states ⌝ }
     requires columns { ⌜ length (now columns) ≡ 4 ^ fine * states ⌝ }

@@ -27,13 +27,25 @@ pub enum Fault {
 }
 
 /// Writes the cells at a depth under a prefix of so many digits, and answers how many they are.
-pub fn print<'a, W: Weight>(place: &'a Record, weights: &'a [W], depth: usize, digits: usize, prefix: usize, scratch: &mut [W], cells: &mut [W]) -> Result<usize, Fault>
+pub fn print<'a, W: Weight>(
+    place: &'a Record,
+    weights: &'a [W],
+    depth: usize,
+    digits: usize,
+    prefix: usize,
+    scratch: &mut [W],
+    cells: &mut [W],
+) -> Result<usize, Fault>
     requires kept { ⌜ Kept (now place) ⌝ }
     requires weights { ⌜ length (now weights) ≡ 640 ⌝ }
     requires scratch { ⌜ length (now scratch) ≡ 2688 ⌝ }
     ensures { λ r. ⌜ Outcome (picture kind (stored (now (place .entry)) (now (weights .entry)))) depth digits prefix (now (cells .entry)) (now (cells .exit)) r ⌝ }
 {
-    if depth > MAX_DEPTH || digits > depth || depth - digits > MAX_TILE || prefix >= power(digits as u8) {
+    if depth > MAX_DEPTH
+        || digits > depth
+        || depth - digits > MAX_TILE
+        || prefix >= power(digits as u8)
+    {
         return Err(Fault::NoTile);
     }
     let deep = (depth - digits) as u8;

@@ -14,4 +14,4 @@ Inv-loop-arc g l =
     × given.iterator-loop-arc g .ends (l .arc-iterator)
     × All (λ e. e .0 .from < length (l .row)) (pairs-rest (l .arc-iterator))
     × (k .plus (l .sum) (gathered k (pairs-rest (l .arc-iterator)) (at-state k (l .row)) (l .quadrant) (l .q))
-      ≡ gathered k (zipped (l .arcs) (l .weights)) (at-state k (l .row)) (l .quadrant) (l .q))
+    ≡ gathered k (zipped (l .arcs) (l .weights)) (at-state k (l .row)) (l .quadrant) (l .q))

@@ -32,6 +32,6 @@ returns g c =
       cells =
           ap₂ _++_
           (tile-is k b (c .follow .last .row) (c .copy-from-slice .last .self) _ (base-four (c .args .digits) (c .args .prefix)) (c .args .depth - c .args .digits) (c .copy-from-slice .ensures .after) (c .follow .ensures) (c .tile .ensures)
-           ∙ ap (λ b. map (picture k b) (cells-below (base-four (c .args .digits) (c .args .prefix)) (c .args .depth - c .args .digits))) (c .new-body .ensures .body))
+          ∙ ap (λ b. map (picture k b) (cells-below (base-four (c .args .digits) (c .args .prefix)) (c .args .depth - c .args .digits))) (c .new-body .ensures .body))
           (ap (λ n. drop n (c .args .cells .now)) (omega arith));
     }

@@ -28,5 +28,5 @@ returns g t c =
     let two = two-halves len (c .args .depth) (a .states) (c .pre .rows) (λ e. omega arith) in
     two-parts (len / 2) (c .args .rows .now) (c .carry .last .rows) (c .carry-2 .last .rows) two (search needs) (search needs)
     ∙ rows-more k (edges a) (a .states) (c .args .row .now) (c .args .y) (c .step-row .last .next) (c .step-row-2 .last .next) _ _ (c .args .depth) (c .args .depth - 1)
-      (omega arith) (c .step-row .ensures ∙ ap (stepped k (edges a) (a .states) (c .args .row .now)) (c .named .ensures))
-      (c .step-row-2 .ensures ∙ ap (stepped k (edges a) (a .states) (c .args .row .now)) (c .named-2 .ensures)) (c .carry .ensures) (c .carry-2 .ensures)
+    (omega arith) (c .step-row .ensures ∙ ap (stepped k (edges a) (a .states) (c .args .row .now)) (c .named .ensures))
+    (c .step-row-2 .ensures ∙ ap (stepped k (edges a) (a .states) (c .args .row .now)) (c .named-2 .ensures)) (c .carry .ensures) (c .carry-2 .ensures)

@@ -41,11 +41,12 @@ loop-i-again g c =
     let room = part-room (c .loop-i .i) _ _ (c .side-high .result) (c .side-wide .result) _ (c .side-high .ensures) (c .side-wide .ensures) (c .loop-i .inv .0 ∙ c .pre .cells) (c .loop-i-test .taken) in
     let long = ap length (c .line .ensures) ∙ length-map-counting _ 0 (2 ^ (c .args .coarse + c .args .fine)) ∙ sym (c .side-wide .ensures) in
     let coarse : (c .args .y * c .side-high .result + c .loop-i .i) / 2 ^ c .args .fine ≡ c .args .y =
-      ap (λ m. (c .args .y * c .side-high .result + c .loop-i .i) / m) (sym (c .side-high .ensures)) ∙ digits-div (c .args .y) (c .loop-i-test .taken) in
-    (part-long (c .loop-i .i) (c .side-wide .result) (c .loop-i .cells) _ room long ∙ c .loop-i .inv .0,
-     part-written (λ i. cells-in-row k (body a) (c .args .row .now) (c .args .coarse + c .args .fine) (c .args .y * c .side-high .result + i)) (c .loop-i .i) (c .side-wide .result) (c .loop-i .cells) _ room long (c .loop-i .inv .1)
-       (line-is (g .W·Weight·met .laws) (body a) (c .pre .ready .sound) (c .args .row .now) (c .pre .row) (c .args .coarse) (c .args .fine) (c .args .y) _ _ _
-         (c .args .y * c .side-high .result + c .loop-i .i) (c .pre .fine) coarse (c .carry .ensures) (c .pre .columns) (c .line .ensures)))
+    ap (λ m. (c .args .y * c .side-high .result + c .loop-i .i) / m) (sym (c .side-high .ensures)) ∙ digits-div (c .args .y) (c .loop-i-test .taken) in (
+      part-long (c .loop-i .i) (c .side-wide .result) (c .loop-i .cells) _ room long ∙ c .loop-i .inv .0,
+      part-written (λ i. cells-in-row k (body a) (c .args .row .now) (c .args .coarse + c .args .fine) (c .args .y * c .side-high .result + i)) (c .loop-i .i) (c .side-wide .result) (c .loop-i .cells) _ room long (c .loop-i .inv .1)
+          (line-is (g .W·Weight·met .laws) (body a) (c .pre .ready .sound) (c .args .row .now) (c .pre .row) (c .args .coarse) (c .args .fine) (c .args .y) _ _ _
+          (c .args .y * c .side-high .result + c .loop-i .i) (c .pre .fine) coarse (c .carry .ensures) (c .pre .columns) (c .line .ensures)),
+    )
 
 pub returns : need.returns
 returns g c =
@@ -53,6 +54,6 @@ returns g c =
     let k = g .W·Weight .kind in
     let done : c .loop-i .i ≡ c .side-high .result = omega arith in
     all-written _ (c .side-high .result) (c .side-wide .result) _ (c .loop-i .inv .0 ∙ c .pre .cells ∙ sym (ap₂ _*_ (c .side-high .ensures) (c .side-wide .ensures)))
-      (ap (λ m. take (m * c .side-wide .result) (c .loop-i .cells)) (sym done) ∙ c .loop-i .inv .1
-       ∙ ap (λ m. joined (λ i. cells-in-row k (body a) (c .args .row .now) (c .args .coarse + c .args .fine) (c .args .y * c .side-high .result + i)) (counting 0 m)) done)
+    (ap (λ m. take (m * c .side-wide .result) (c .loop-i .cells)) (sym done) ∙ c .loop-i .inv .1
+    ∙ ap (λ m. joined (λ i. cells-in-row k (body a) (c .args .row .now) (c .args .coarse + c .args .fine) (c .args .y * c .side-high .result + i)) (counting 0 m)) done)
     ∙ ap (λ m. joined (λ i. cells-in-row k (body a) (c .args .row .now) (c .args .coarse + c .args .fine) (c .args .y * m + i)) (counting 0 m)) (c .side-high .ensures)

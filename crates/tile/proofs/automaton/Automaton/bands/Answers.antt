@@ -40,9 +40,12 @@ pub loop-y-again : need.loop-y-again
 loop-y-again g c =
     let size = c .side .result * c .side-2 .result in
     let room = part-room (c .loop-y .y) _ _ (c .side-count .result) size _ (c .side-count .ensures) (ap₂ _*_ (c .side .ensures) (c .side-2 .ensures)) (c .loop-y .inv .0 ∙ c .pre .cells) (c .loop-y-test .taken) in
-    let long : length (c .band .last .cells) ≡ size = search needs in
-    (part-long (c .loop-y .y) size (c .loop-y .cells) _ room long ∙ c .loop-y .inv .0, search needs, search needs,
-     part-written _ (c .loop-y .y) size (c .loop-y .cells) _ room long (c .loop-y .inv .3) (c .band .ensures))
+    let long : length (c .band .last .cells) ≡ size = search needs in (
+      part-long (c .loop-y .y) size (c .loop-y .cells) _ room long ∙ c .loop-y .inv .0,
+      search needs,
+      search needs,
+      part-written _ (c .loop-y .y) size (c .loop-y .cells) _ room long (c .loop-y .inv .3) (c .band .ensures),
+    )
 
 pub returns : need.returns
 returns g c =

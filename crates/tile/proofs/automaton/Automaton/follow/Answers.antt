@@ -17,11 +17,12 @@ div-prefix g c = omega (arith, c .power .ensures, four-pos (c .loop-left .left -
 pub loop-left-again : need.loop-left-again
 loop-left-again g c =
     let a = c .args .self .now in
-    let k = g .W·Weight .kind in
-    (omega arith,
-     follow-more (g .W·Weight·met .laws) (body a) (c .pre .ready .sound) (c .loop-left .row) _ (c .loop-left .left) (c .args .prefix) _ (omega arith)
-       (c .copy-from-slice .ensures .after ∙ c .step-row .ensures ∙ ap (stepped k (edges a) (a .states) (c .loop-left .row)) (c .named .ensures ∙ ap (λ m. named (c .args .prefix / m % 4)) (c .power .ensures)))
-       (c .loop-left .inv .1))
+    let k = g .W·Weight .kind in (
+      omega arith,
+      follow-more (g .W·Weight·met .laws) (body a) (c .pre .ready .sound) (c .loop-left .row) _ (c .loop-left .left) (c .args .prefix) _ (omega arith)
+          (c .copy-from-slice .ensures .after ∙ c .step-row .ensures ∙ ap (stepped k (edges a) (a .states) (c .loop-left .row)) (c .named .ensures ∙ ap (λ m. named (c .args .prefix / m % 4)) (c .power .ensures)))
+          (c .loop-left .inv .1),
+    )
 
 pub returns : need.returns
 returns g c =

@@ -56,10 +56,11 @@ loop-c-again g c =
     let a = c .args .self .now in
     let k = g .W·Weight .kind in
     let room = lift-room (c .loop-c .c) (c .args .digits) (c .power-count .result) (a .states) _ (c .power-count .ensures) (c .loop-c-test .taken) (c .loop-c .inv .0 ∙ c .pre .longer) in
-    let long = ap length (c .step-column .ensures) ∙ length-map-counting _ 0 (a .states) in
-    (part-long (c .loop-c .c) (a .states) (c .loop-c .longer) _ room long ∙ c .loop-c .inv .0,
-     part-written _ (c .loop-c .c) (a .states) (c .loop-c .longer) _ room long (c .loop-c .inv .1)
-       (c .step-column .ensures ∙ ap₂ (spreads k (edges a) (a .states)) (c .slot-column .ensures) (c .named .ensures)))
+    let long = ap length (c .step-column .ensures) ∙ length-map-counting _ 0 (a .states) in (
+      part-long (c .loop-c .c) (a .states) (c .loop-c .longer) _ room long ∙ c .loop-c .inv .0,
+      part-written _ (c .loop-c .c) (a .states) (c .loop-c .longer) _ room long (c .loop-c .inv .1)
+          (c .step-column .ensures ∙ ap₂ (spreads k (edges a) (a .states)) (c .slot-column .ensures) (c .named .ensures)),
+    )
 
 pub returns : need.returns
 returns g c =

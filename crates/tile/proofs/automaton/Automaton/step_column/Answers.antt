@@ -1,9 +1,16 @@
 use mathlib.Core.Path.{sym, subst}
-use Prim.Native.Nat.{_<_}
-use Rattle.std.proofs.shelf.Elements.{all-weaker}
+use native.Mathlib.Omega.{arith}
+use Rattle.std.specs.shelf.Lists.{All}
 use Rattle.picture.specs.Bodies.{Within}
 use Rattle.tile.proofs.automaton.Automaton.step_column.Needs as need
 
-pub retreat-requires : need.retreat-requires
-retreat-requires g c κs =
-    all-weaker (λ e. Within (c .args .self .now .states) (e .0)) _ (λ e h. subst (λ n. e .0 .to < n) (sym (c .pre .column)) (h .1)) _ (c .pre .ready .sound .ends)
+pub step-column-requires : need.step-column-requires
+step-column-requires g c κs =
+    let ready = c .pre .ready in
+    record {
+      indexed = ready .out-of;
+      weighted = ready .weighted;
+      states = omega (arith, ready .few, c .pre .column);
+      ends = subst (λ n. All (Within n) (c .args .self .now .arcs .now)) (sym (c .pre .column)) (ready .ends);
+      below = omega (arith, ready .few, c .pre .next);
+    }

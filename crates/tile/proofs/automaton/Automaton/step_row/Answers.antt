@@ -1,9 +1,16 @@
 use mathlib.Core.Path.{sym, subst}
-use Prim.Native.Nat.{_<_}
-use Rattle.std.proofs.shelf.Elements.{all-weaker}
+use native.Mathlib.Omega.{arith}
+use Rattle.std.specs.shelf.Lists.{All}
 use Rattle.picture.specs.Bodies.{Within}
 use Rattle.tile.proofs.automaton.Automaton.step_row.Needs as need
 
-pub advance-requires : need.advance-requires
-advance-requires g c κs =
-    all-weaker (λ e. Within (c .args .self .now .states) (e .0)) _ (λ e h. subst (λ n. e .0 .from < n) (sym (c .pre .row)) (h .0)) _ (c .pre .ready .sound .ends)
+pub step-row-requires : need.step-row-requires
+step-row-requires g c κs =
+    let ready = c .pre .ready in
+    record {
+      indexed = ready .into;
+      weighted = ready .weighted;
+      states = omega (arith, ready .few, c .pre .row);
+      ends = subst (λ n. All (Within n) (c .args .self .now .arcs .now)) (sym (c .pre .row)) (ready .ends);
+      below = omega (arith, ready .few, c .pre .next);
+    }
