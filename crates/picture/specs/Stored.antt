@@ -7,6 +7,7 @@ use Rattle.std.specs.Finite.{zipped}
 use Rattle.std.specs.Holes.{between}
 use Rattle.std.specs.shelf.Lists.{All}
 use Rattle.picture.specs.Bodies.{Body, Within}
+use Rattle.picture.specs.declared.body.Arc.{Arc}
 use Rattle.picture.specs.declared.body.Record.{Record}
 
 -- `between i j xs` is `xs[i..j]`
@@ -23,6 +24,19 @@ pub record Kept (r : Record) : Type 0 where
   pub few-states : r .states ≤ 64
   pub few-arcs : r .count ≤ 512
   pub ends : All (Within (r .states)) (between 0 (r .count) (r .arcs))
+
+-- so many states and these arcs are within the limits
+pub record Fits (n : ℕ) (arcs : List Arc) : Type 0 where
+  pub few-states : n ≤ 64
+  pub few-arcs : length arcs ≤ 512
+  pub ends : All (Within n) arcs
+
+-- a record of so many states and these arcs, within the limits
+pub record Holds (n : ℕ) (arcs : List Arc) (r : Record) : Type 0 where
+  pub states : r .states ≡ n
+  pub count : r .count ≡ length arcs
+  pub same : between 0 (r .count) (r .arcs) ≡ arcs
+  pub kept : Kept r
 
 -- nothing but the `size` weights from `at` on may differ
 pub record Outside {W : Type 0} (at size : ℕ) (before after : List W) : Type 0 where

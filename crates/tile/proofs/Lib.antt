@@ -1,3 +1,4 @@
+pub mod Alongs
 pub mod Bits
 pub mod Lifts
 pub mod Meets

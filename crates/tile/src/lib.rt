@@ -3,11 +3,13 @@ mod automaton;
 mod bands;
 mod cells;
 mod columns;
+mod plain;
 mod powers;
 mod printing;
 mod slots;
 mod tiles;
 
 pub use automaton::Automaton;
+pub use plain::cell;
 pub use printing::Fault;
 pub use printing::print;
