@@ -2,6 +2,10 @@
 ghost use Rattle.examples.specs.Examples.{Examples};
 
 #[cfg(test)]
+mod recipes;
+#[cfg(test)]
+mod tiles;
+#[cfg(test)]
 mod weights;
 
 /// The worked examples hold.

@@ -30,7 +30,7 @@ stored-sound r mem kept room = record {
 pub holds-made : (n : ℕ) (arcs used rest : List Arc) → used ≡ arcs → Fits n arcs → Holds n arcs (record { states = n; count = length arcs; arcs = used ++ rest })
 holds-made n arcs used rest e fits =
     let same : between 0 (length arcs) (used ++ rest) ≡ arcs =
-      ap (λ m. take m (used ++ rest)) (omega arith) ∙ take-at used rest (length arcs) (ap length e) ∙ e in
+    ap (λ m. take m (used ++ rest)) (omega arith) ∙ take-at used rest (length arcs) (ap length e) ∙ e in
     record {
       states = refl;
       count = refl;

@@ -16,7 +16,13 @@ use steps::meet;
 use weight::Weight;
 
 /// Takes a row along an address; `next` is room for one row.
-fn travel<W: Weight>(arcs: &[Arc], weights: &[W], address: &[Quadrant], row: &mut [W], next: &mut [W])
+fn travel<W: Weight>(
+    arcs: &[Arc],
+    weights: &[W],
+    address: &[Quadrant],
+    row: &mut [W],
+    next: &mut [W],
+)
     requires ends { ⌜ All (λ e. e .0 .from < length (now row)) (zipped (now arcs) (now weights)) ⌝ }
     requires next { ⌜ length (now next) ≡ length (now row) ⌝ }
     ensures { λ _. ⌜ now (row .exit) ≡ carried kind (zipped (now (arcs .entry)) (now (weights .entry))) (length (now (row .entry))) (now (address .entry)) (now (row .entry)) ⌝ }

@@ -17,8 +17,8 @@ pub returns-then-arc-states : need.returns-then-arc-states
 returns-then-arc-states c all =
     let h = all-getD (Within (c .args .states)) (c .args .arcs .now) (c .loop-arc .arc-index) none (c .loop-arc-test .taken) all in
     elim (c .then-arc-states .came) [
-      then-arc-states·by·then-arc-states w ↦ omega (arith, h .0, w .if-arc-states .taken)
-    | then-arc-states·by·else-arc-states·then-arc-states-2 w ↦ omega (arith, h .1, w .if-arc-states-2 .taken)
+      | then-arc-states·by·then-arc-states w ↦ omega (arith, h .0, w .if-arc-states .taken)
+      | then-arc-states·by·else-arc-states·then-arc-states-2 w ↦ omega (arith, h .1, w .if-arc-states-2 .taken)
     ]
 
 pub loop-arc-again : need.loop-arc-again

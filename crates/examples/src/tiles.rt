@@ -1,0 +1,186 @@
+//! Tests of cells and tiles.
+use picture::Arc;
+use picture::BAY;
+use picture::Quadrant;
+use picture::Record;
+use std::test::*;
+use tile::Fault;
+use tile::cell;
+use tile::print;
+use weight::Grey;
+use weight::GreyWeight;
+use weight::Ink;
+use weight::InkWeight;
+use weight::Valve;
+use weight::ValveWeight;
+use weight::Weight;
+
+const fn arc(from: u8, to: u8, quadrant: Quadrant) -> Arc {
+    Arc { from, to, quadrant }
+}
+
+/// Loops at both states for each digit, and from the first state to the second for digits 1 and 3.
+fn ramp() -> [Arc; 10] {
+    [
+        arc(0, 0, Quadrant::UpperLeft),
+        arc(0, 0, Quadrant::UpperRight),
+        arc(0, 0, Quadrant::LowerLeft),
+        arc(0, 0, Quadrant::LowerRight),
+        arc(0, 1, Quadrant::UpperRight),
+        arc(0, 1, Quadrant::LowerRight),
+        arc(1, 1, Quadrant::UpperLeft),
+        arc(1, 1, Quadrant::UpperRight),
+        arc(1, 1, Quadrant::LowerLeft),
+        arc(1, 1, Quadrant::LowerRight),
+    ]
+}
+
+/// Fills in the ramp's weights: first (1, 0), last (0, 1), loops of 1 and of 2, and 1 in between.
+fn fill_ramp<W: Weight>(weights: &mut [W]) {
+    for (i, weight) in weights.iter_mut().enumerate() {
+        *weight = match i {
+            0 | 65 | 128..=133 => W::one(),
+            134..=137 => W::one().plus(W::one()),
+            _ => W::zero(),
+        };
+    }
+}
+
+/// Whether a tile's cells are these greys, and nothing is written behind them.
+fn shows(
+    states: u8,
+    arcs: &[Arc],
+    weights: &[Grey],
+    numbers: (usize, usize, usize),
+    greys: &[u32],
+) -> bool {
+    let Some(place) = Record::new(states, arcs) else {
+        return false;
+    };
+    let mut scratch = [Grey::new(9); 2688];
+    let mut cells = [Grey::new(8); 17];
+    let (depth, digits, prefix) = numbers;
+    if weights.len() != BAY
+        || print(
+            &place,
+            weights,
+            depth,
+            digits,
+            prefix,
+            &mut scratch,
+            &mut cells,
+        ).is_err()
+    {
+        return false;
+    }
+    let mut same = true;
+    for (i, cell) in cells.iter().enumerate() {
+        same = same && cell.number() == greys.get(i).copied().unwrap_or(8);
+    }
+    same
+}
+
+#[test]
+fn ramp_tiles() -> Result<(), Fail> {
+    let mut weights = [Grey::new(0); BAY];
+    fill_ramp(&mut weights);
+    let arcs = ramp();
+    check(shows(
+        2,
+        &arcs,
+        &weights,
+        (2, 0, 0),
+        &[0, 1, 2, 3, 0, 1, 2, 3, 0, 1, 2, 3, 0, 1, 2, 3],
+    ))?;
+    check(shows(2, &arcs, &weights, (2, 1, 1), &[2, 3, 2, 3]))?;
+    check(shows(2, &arcs, &weights, (2, 2, 7), &[3]))?;
+    check(shows(2, &arcs, &weights, (0, 0, 0), &[0]))?;
+    check(shows(
+        2,
+        &arcs,
+        &weights,
+        (12, 11, 4_194_303),
+        &[4094, 4095, 4094, 4095],
+    ))
+}
+
+#[test]
+fn parallel_arcs_add_up() -> Result<(), Fail> {
+    let both = [
+        arc(0, 0, Quadrant::UpperLeft),
+        arc(0, 0, Quadrant::UpperLeft),
+    ];
+    let mut weights = [Grey::new(1); BAY];
+    weights[128] = Grey::new(2);
+    weights[129] = Grey::new(3);
+    check(shows(1, &both, &weights, (1, 0, 0), &[5, 0, 0, 0]))
+}
+
+#[test]
+fn no_states() -> Result<(), Fail> {
+    check(shows(0, &[], &[Grey::new(7); BAY], (1, 0, 0), &[0, 0, 0, 0]))?;
+    check(Record::new(0, &[arc(0, 0, Quadrant::UpperLeft)]).is_none())?;
+    check(Record::new(65, &[]).is_none())
+}
+
+/// The ramp's cell in the lower right at depth 2, on any kind, by the plain evaluation.
+fn corner<W: Weight>(weights: &mut [W], scratch: &mut [W]) -> Option<W> {
+    let Some(place) = Record::new(2, &ramp()) else {
+        return None;
+    };
+    if weights.len() != BAY || scratch.len() != 128 {
+        return None;
+    }
+    fill_ramp(weights);
+    Some(cell(
+        &place,
+        weights,
+        &[Quadrant::LowerRight, Quadrant::LowerRight],
+        scratch,
+    ))
+}
+
+#[test]
+fn other_kinds() -> Result<(), Fail> {
+    let Some(grey) = corner(&mut [Grey::new(0); BAY], &mut [Grey::new(5); 128]) else {
+        return Err(Fail::new("no grey"));
+    };
+    check_eq(grey.number(), 3)?;
+    let Some(ink) = corner(&mut [Ink::new(0); BAY], &mut [Ink::new(5); 128]) else {
+        return Err(Fail::new("no ink"));
+    };
+    check_eq(ink.number(), 3)?;
+    let Some(valve) = corner(&mut [Valve::new(0); BAY], &mut [Valve::new(5); 128]) else {
+        return Err(Fail::new("no valve"));
+    };
+    check_eq(valve.number(), 9)
+}
+
+/// Why a blank body's tile is not printed into so many cells.
+fn fault(numbers: (usize, usize, usize), cells: &mut [Grey]) -> Option<Fault> {
+    let Some(place) = Record::new(0, &[]) else {
+        return None;
+    };
+    let mut scratch = [Grey::new(9); 2688];
+    let (depth, digits, prefix) = numbers;
+    print(
+        &place,
+        &[Grey::new(7); BAY],
+        depth,
+        digits,
+        prefix,
+        &mut scratch,
+        cells,
+    ).err()
+}
+
+#[test]
+fn refusals() -> Result<(), Fail> {
+    let mut cells = [Grey::new(8); 16];
+    check(matches!(fault((13, 13, 0), &mut cells), Some(Fault::NoTile)))?;
+    check(matches!(fault((2, 3, 0), &mut cells), Some(Fault::NoTile)))?;
+    check(matches!(fault((7, 0, 0), &mut cells), Some(Fault::NoTile)))?;
+    check(matches!(fault((2, 1, 4), &mut cells), Some(Fault::NoTile)))?;
+    check(matches!(fault((3, 0, 0), &mut cells), Some(Fault::ShortOutput)))?;
+    check(fault((2, 0, 0), &mut cells).is_none())
+}

@@ -1,0 +1,10 @@
+pub mod Walks
+pub mod Moves
+pub mod Refusals
+pub mod Parts
+pub mod Lines
+pub mod Answered
+pub mod Counts
+pub mod Single
+pub mod Carried
+pub mod Stepping

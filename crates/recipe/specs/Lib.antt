@@ -1,0 +1,10 @@
+pub mod Places
+pub mod Trees
+pub mod Steps
+pub mod Limits
+pub mod Faults
+pub mod Outcomes
+pub mod Expressions
+pub mod Evaluations
+pub mod Laws
+pub mod Devices
