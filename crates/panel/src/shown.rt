@@ -37,6 +37,11 @@ pub trait Shown: Written {
 
     fn show(self, heap: Global) -> Result<String, AllocError>
         ensures { λ r. ⌜ made r (λ s. string-bytes s ≡ text self) ⌝ };
+
+    /// The largest number, where the kind's numbers are shades of a picture.
+    fn largest() -> Option<u32> {
+        None
+    }
 }
 
 pub impl Shown for Mask as MaskShown {
@@ -45,6 +50,10 @@ pub impl Shown for Mask as MaskShown {
     fn show(self, heap: Global) -> Result<String, AllocError> {
         self.number().to_string(heap)
     }
+
+    fn largest() -> Option<u32> {
+        Some(1)
+    }
 }
 
 pub impl Shown for Grey as GreyShown {
@@ -52,6 +61,10 @@ pub impl Shown for Grey as GreyShown {
 
     fn show(self, heap: Global) -> Result<String, AllocError> {
         self.number().to_string(heap)
+    }
+
+    fn largest() -> Option<u32> {
+        Some(65_535)
     }
 }
 
@@ -68,6 +81,10 @@ pub impl Shown for Ink as InkShown {
 
     fn show(self, heap: Global) -> Result<String, AllocError> {
         self.number().to_string(heap)
+    }
+
+    fn largest() -> Option<u32> {
+        Some(255)
     }
 }
 
