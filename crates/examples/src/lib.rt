@@ -9,8 +9,6 @@ mod tiles;
 mod weights;
 
 /// The worked examples hold.
-pub fn examples_hold() -> u8
+pub fn examples_hold()
     ensures { λ _. ⌜ Examples ⌝ }
-{
-    0
-}
+{}

@@ -77,7 +77,7 @@ pub impl Shown for Height as HeightShown {
 }
 
 pub impl Shown for Ink as InkShown {
-    ghost text = { λ v. decimal (v .drops) };
+    ghost text = { λ v. decimal (v .amount) };
 
     fn show(self, heap: Global) -> Result<String, AllocError> {
         self.number().to_string(heap)

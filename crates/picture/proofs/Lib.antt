@@ -1,4 +1,12 @@
 pub mod Carries
+pub mod DigitPictures
+pub mod Embeddings
+pub mod LawsOfPictures
+pub mod PiecedPictures
+pub mod ProductPictures
+pub mod StateSums
 pub mod States
-pub mod Values
 pub mod Storing
+pub mod SumPictures
+pub mod Values
+pub mod ZoomPictures

@@ -50,7 +50,7 @@ module _ {W : Type 0} {k : Kind W} (laws : Laws k) where
         ∙ total-all laws _ (b .arcs) _ _ (sound .ends) (λ e ends. one-left (b .states) (e .0 .from) (reaches d q e) row (e .1) (ends .0))
 
     -- W_d times a column goes by the arcs that leave a state
-    entry-spread : (column : ℕ → W) (d : Quadrant) (p : ℕ) → total k (counting 0 (b .states)) (λ q. k .times (entry k b d p q) (column q)) ≡ spread k (b .arcs) column d p
+    pub entry-spread : (column : ℕ → W) (d : Quadrant) (p : ℕ) → total k (counting 0 (b .states)) (λ q. k .times (entry k b d p q) (column q)) ≡ spread k (b .arcs) column d p
     entry-spread column d p =
         ap (total k (counting 0 (b .states))) (fun-ext (λ q. total-times laws (column q) (b .arcs) _))
         ∙ total-swap laws (counting 0 (b .states)) (b .arcs) (λ q e. k .times (cond (goes d p q e) (e .1) (k .zero)) (column q))

@@ -5,3 +5,7 @@ pub mod Cells
 pub mod Stored
 pub mod Steps
 pub mod Statements
+pub mod Operations
+pub mod BodyOperations
+pub mod OperationStatements
+pub mod PictureLaws

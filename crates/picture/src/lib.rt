@@ -1,7 +1,7 @@
 //! Pictures over quadrant addresses, and the weighted automata that store them.
 mod body;
 mod quadrant;
-mod statements;
+mod theorems;
 
 pub use body::Arc;
 pub use body::BAY;
@@ -11,4 +11,7 @@ pub use body::Record;
 pub use quadrant::Quadrant;
 pub use quadrant::QuadrantDebug;
 pub use quadrant::QuadrantPartialEq;
-pub use statements::pictures_stand;
+pub use theorems::meet_in_the_middle;
+pub use theorems::operations_stand;
+pub use theorems::picture_laws_stand;
+pub use theorems::steps_by_arcs;

@@ -15,8 +15,8 @@ same-data {P = P} prop make p q e = λ i. make (e i) (isProp→PathP (λ j. P (e
 pub same-grey : {a b : Grey} → a .level ≡ b .level → a ≡ b
 same-grey {a} {b} e = same-data (λ _. le-prop) (λ n h. record { level = n; fits = h }) (a .fits) (b .fits) e
 
-pub same-ink : {a b : Ink} → a .drops ≡ b .drops → a ≡ b
-same-ink {a} {b} e = same-data (λ _. le-prop) (λ n h. record { drops = n; fits = h }) (a .fits) (b .fits) e
+pub same-ink : {a b : Ink} → a .amount ≡ b .amount → a ≡ b
+same-ink {a} {b} e = same-data (λ _. le-prop) (λ n h. record { amount = n; fits = h }) (a .fits) (b .fits) e
 
 abbrev bytes : Height → ℕ × ℕ × ℕ
 bytes h = (h .high, h .middle, h .low)

@@ -8,16 +8,16 @@ use Rattle.weight.specs.declared.ink.Ink.{Ink}
 
 -- the ink that a number comes to
 abbrev pub ink : ℕ → Ink
-ink n = record { drops = min n 255; fits = omega arith }
+ink n = record { amount = min n 255; fits = omega arith }
 
 abbrev pub ink-kind : Kind Ink
 ink-kind = record {
   zero = ink 0;
   one = ink 1;
-  plus = λ a b. ink (a .drops + b .drops);
-  times = λ a b. ink (a .drops * b .drops);
+  plus = λ a b. ink (a .amount + b .amount);
+  times = λ a b. ink (a .amount * b .amount);
   exchanges = true;
 }
 
 abbrev pub ink-writing : Writing Ink
-ink-writing = single-word 4 (λ a. a .drops)
+ink-writing = single-word 4 (λ a. a .amount)

@@ -16,18 +16,18 @@ valve n = record { bit0 = eqb (n % 2) 1; bit1 = eqb (n / 2 % 2) 1; bit2 = eqb (n
 abbrev pub valve-number : Valve → ℕ
 valve-number v = cond (v .bit0) 1 0 + 2 * cond (v .bit1) 1 0 + 4 * cond (v .bit2) 1 0 + 8 * cond (v .bit3) 1 0
 
--- bit 2i + j, where false is 0 and true is 1: feed i reaches nozzle j
+-- bit 2i + j, where false is 0 and true is 1: input i reaches output j
 abbrev pub reaches : Valve → Bool → Bool → Bool
 reaches v false false = v .bit0
 reaches v false true = v .bit1
 reaches v true false = v .bit2
 reaches v true true = v .bit3
 
--- the valve in which feed i reaches nozzle j exactly if f i j
+-- the valve in which input i reaches output j exactly if f i j
 abbrev pub valve-where : (Bool → Bool → Bool) → Valve
 valve-where f = record { bit0 = f false false; bit1 = f false true; bit2 = f true false; bit3 = f true true }
 
--- the sum is the union; in the product feed i reaches nozzle j by some t that it reaches in a and that reaches j in b
+-- the sum is the union; in the product input i reaches output j by some t that it reaches in a and that reaches j in b
 abbrev pub valve-kind : Kind Valve
 valve-kind = record {
   zero = valve 0;

@@ -8,6 +8,6 @@ pub use kind::InkWritten;
 /// A number that stops at 255.
 #[derive(Clone, Copy)]
 pub struct Ink {
-    drops: u8,
-    ghost fits: { drops < 256 },
+    amount: u8,
+    ghost fits: { amount < 256 },
 }

@@ -1,7 +1,7 @@
 //! Kinds of weight: semirings whose laws each implementation proves, and how their values are written.
-pub mod grey;
-pub mod height;
-pub mod ink;
+mod grey;
+mod height;
+mod ink;
 mod kind;
 mod mask;
 mod pair;

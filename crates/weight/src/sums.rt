@@ -26,8 +26,6 @@ pub fn product<W: Weight>(weights: &[W]) -> W
 }
 
 /// Two sums may be exchanged, and a factor distributes over a sum.
-pub fn sum_laws<W: Weight, A, B>() -> u8
+pub fn sum_laws<W: Weight, A, B>()
     ensures { λ _. ⌜ SumLaws {W = W} kind A B ⌝ }
-{
-    0
-}
+{}

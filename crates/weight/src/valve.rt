@@ -11,7 +11,7 @@ use products::PRODUCTS;
 /// How many valves there are.
 const COUNT: u32 = 16;
 
-/// Which of two feeds reaches which of two nozzles: bit 2i + j says that feed i reaches nozzle j.
+/// A Boolean matrix of two rows and two columns: bit 2i + j says that input i reaches output j.
 #[derive(Clone, Copy)]
 pub struct Valve {
     pub bit0: bool,

@@ -14,14 +14,14 @@ impl Ink {
         ensures { λ r. ⌜ r ≡ ink number ⌝ }
     {
         Ink {
-            drops: number.min(MOST) as u8,
+            amount: number.min(MOST) as u8,
         }
     }
 
     pub fn number(self) -> u32
-        ensures { λ r. ⌜ r ≡ self .drops ⌝ }
+        ensures { λ r. ⌜ r ≡ self .amount ⌝ }
     {
-        u32::from(self.drops)
+        u32::from(self.amount)
     }
 }
 

@@ -7,11 +7,11 @@ use Rattle.weight.proofs.Same.{same-ink}
 use Rattle.weight.proofs.ink.kind.InkWeight.the-impl.Needs as need
 
 pub laws-law : need.laws-law
-laws-law = rounded-laws ink (λ x. x .drops) plus-and-times (record {
+laws-law = rounded-laws ink (λ x. x .amount) plus-and-times (record {
   add-of = λ a b. same-ink (cap-add-cap a 255 b);
   mul-of = λ a b. same-ink (cap-mul-cap a 255 b);
   plus-zero = λ x. same-ink (omega arith);
   times-one = λ x. same-ink (omega arith);
   times-zero = λ x. same-ink (omega arith);
-  apart = λ e. omega (arith, ap (λ x. x .drops) e);
+  apart = λ e. omega (arith, ap (λ x. x .amount) e);
 })
