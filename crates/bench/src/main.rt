@@ -22,8 +22,10 @@ fn line(rt: &LibcRuntime, label: &str, work: Work) -> Result<(), AnyError> {
 
 fn run(rt: &LibcRuntime) -> Result<(), AnyError> {
     let mut args = env::args(rt)?.skip(1);
-    if args.next().is_some() {
-        return timing::compare(rt);
+    match args.next() {
+        Some(word) if word.as_str() == "time" => return timing::compare(rt),
+        Some(_) => return Err("the only argument is time".into()),
+        None => {}
     }
     println!(rt, "64 states, 512 arcs, tile depth 6: 4096 cells")?;
     line(rt, "columns", work::columns())?;

@@ -8,6 +8,7 @@ use picture::Quadrant;
 use picture::Record;
 use std::error::AnyError;
 use std::time::Instant;
+use tile::SCRATCH;
 use tile::cell;
 use tile::print;
 use weight::Grey;
@@ -58,7 +59,7 @@ pub(crate) fn compare(rt: &LibcRuntime) -> Result<(), AnyError> {
     };
     let mut weights = [Grey::new(0); 640];
     fill(&mut weights);
-    let mut scratch = [Grey::new(0); 2688];
+    let mut scratch = [Grey::new(0); SCRATCH];
     let mut cells = [Grey::new(0); 4096];
     let mut room = [Grey::new(0); 128];
     let start = Instant::now(rt)?;

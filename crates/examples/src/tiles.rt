@@ -5,6 +5,7 @@ use picture::Quadrant;
 use picture::Record;
 use std::test::*;
 use tile::Fault;
+use tile::SCRATCH;
 use tile::cell;
 use tile::print;
 use weight::Grey;
@@ -57,7 +58,7 @@ fn shows(
     let Some(place) = Record::new(states, arcs) else {
         return false;
     };
-    let mut scratch = [Grey::new(9); 2688];
+    let mut scratch = [Grey::new(9); SCRATCH];
     let mut cells = [Grey::new(8); 17];
     let (depth, digits, prefix) = numbers;
     if weights.len() != BAY
@@ -161,7 +162,7 @@ fn fault(numbers: (usize, usize, usize), cells: &mut [Grey]) -> Option<Fault> {
     let Some(place) = Record::new(0, &[]) else {
         return None;
     };
-    let mut scratch = [Grey::new(9); 2688];
+    let mut scratch = [Grey::new(9); SCRATCH];
     let (depth, digits, prefix) = numbers;
     print(
         &place,

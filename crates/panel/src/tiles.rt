@@ -6,11 +6,8 @@ use crate::room::zeros;
 use crate::shown::Shown;
 use picture::Record;
 use std::error::AnyError;
-use tile::Fault;
+use tile::SCRATCH;
 use tile::print;
-
-/// How many weights printing needs besides the body.
-const SCRATCH: usize = 2688;
 
 /// The cells at a depth under a prefix of so many digits.
 #[derive(Clone, Copy)]
@@ -59,8 +56,10 @@ fn cells<W: Shown>(rt: &LibcRuntime, place: &Record, weights: &[W], tile: Tile) 
     let mut cells = zeros::<W>(rt.alloc(), tile.room())?;
     match print(place, weights, tile.depth, tile.digits, tile.prefix, &mut scratch, &mut cells) {
         Ok(_) => Ok(cells),
-        Err(Fault::NoTile) => Err("refused 15: the numbers name no tile that can be printed".into()),
-        Err(Fault::ShortOutput) => Err("refused 16: the output is too short".into()),
+        Err(fault) => {
+            let number = fault.number();
+            Err(format!(rt.alloc(), "refused {number}: the numbers name no tile that can be printed")?.into())
+        }
     }
 }
 

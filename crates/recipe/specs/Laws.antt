@@ -2,7 +2,7 @@
 use Prim.Native.Nat.{ℕ, _≤_}
 use mathlib.Core.Path.{_≡_}
 use mathlib.Core.Bool.{true}
-use mathlib.Core.List.{List, []}
+use mathlib.Core.List.{List, [], map}
 use lib.ListN.{length}
 use Rattle.std.specs.Results.{isOk}
 use Rattle.std.specs.declared.result.Result.{Result}
@@ -12,7 +12,7 @@ use Rattle.recipe.specs.declared.place.Place.{Place}
 use Rattle.recipe.specs.declared.step.Recipe.{Recipe}
 use Rattle.recipe.specs.Trees.{script, Tree, text}
 use Rattle.recipe.specs.Steps.{steps, listed, Carries}
-use Rattle.recipe.specs.Limits.{max-bytes}
+use Rattle.recipe.specs.Limits.{max-bytes, counted}
 use Rattle.recipe.specs.Outcomes.{Spells, Outcome}
 use Rattle.recipe.specs.Expressions.{lines}
 use Rattle.recipe.specs.Evaluations.{Operations, run-lines, carry}
@@ -20,6 +20,10 @@ use Rattle.recipe.specs.Evaluations.{Operations, run-lines, carry}
 -- a text has at most one tree
 abbrev pub One-tree : Type 0
 One-tree = (t u : Tree script) → text t ≡ text u → t ≡ u
+
+-- the bytes of a tree, counted with their limits, are its text
+abbrev pub Counted-text : Type 0
+Counted-text = (t : Tree script) → map (λ b. b .code) (counted t 0 0) ≡ text t
 
 -- two answers are the same: the same steps, or the same fault with the same byte
 abbrev pub Same : Result Recipe Fault → Result Recipe Fault → Type 0

@@ -26,6 +26,7 @@ pub use step::Step;
 pub use step::StepDebug;
 pub use step::StepPartialEq;
 pub use theorems::accepted_exactly;
+pub use theorems::counted_text;
 pub use theorems::one_answer;
 pub use theorems::one_tree;
 pub use theorems::steps_agree;

@@ -1,9 +1,14 @@
 //! What follows from the contract of `read`, each theorem as the contract of a function that does nothing.
-ghost use Rattle.recipe.specs.Laws.{One-tree, One-answer, Accepted-exactly, Steps-carry, Steps-agree};
+ghost use Rattle.recipe.specs.Laws.{One-tree, Counted-text, One-answer, Accepted-exactly, Steps-carry, Steps-agree};
 
 /// A text has at most one tree.
 pub fn one_tree()
     ensures { λ _. ⌜ One-tree ⌝ }
+{}
+
+/// The bytes at which the limits are counted are those of the text.
+pub fn counted_text()
+    ensures { λ _. ⌜ Counted-text ⌝ }
 {}
 
 /// `read` has one answer that it may give.

@@ -2,5 +2,4 @@
 mod rows;
 
 pub use rows::advance;
-pub use rows::gather;
 pub use rows::meet;

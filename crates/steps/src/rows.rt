@@ -12,7 +12,7 @@ use weight::Weight;
 
 /// One entry of a row times the digit's matrix: the sum, over the arcs that reach state `q` with the digit, of the
 /// row's weight at the arc's start times the arc's.
-pub fn gather<W: Weight>(arcs: &[Arc], weights: &[W], row: &[W], quadrant: Quadrant, q: usize) -> W
+fn gather<W: Weight>(arcs: &[Arc], weights: &[W], row: &[W], quadrant: Quadrant, q: usize) -> W
     requires { ⌜ All (λ e. e .0 .from < length (now row)) (zipped (now arcs) (now weights)) ⌝ }
     ensures { λ r. ⌜ r ≡ gathered kind (zipped (now (arcs .entry)) (now (weights .entry))) (at-state kind (now (row .entry))) quadrant q ⌝ }
 {

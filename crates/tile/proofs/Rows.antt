@@ -22,9 +22,6 @@ use Rattle.tile.proofs.Bits.{cell-low, bit-left, bit-right}
 use Rattle.tile.proofs.Joins.{joined-below, joined-add}
 
 module _ {W : Type 0} (k : Kind W) (arcs : List (Edge W)) (n : ℕ) (row : List W) (y : ℕ) where
-  pub rows-one : (rows : List W) (h : ℕ) → h ≡ 0 → rows ≡ row → rows ≡ rows-along k arcs n row h y
-  rows-one rows h e f = f ∙ sym (append-nil row) ∙ ap (λ h. rows-along k arcs n row h y) (sym e)
-
   pub rows-more : (left right xs ys : List W) (h j : ℕ) → h ≡ suc j
       → left ≡ stepped k arcs n row (named (2 * bit j y)) → right ≡ stepped k arcs n row (named (1 + 2 * bit j y))
       → xs ≡ rows-along k arcs n left j y → ys ≡ rows-along k arcs n right j y → xs ++ ys ≡ rows-along k arcs n row h y

@@ -1,4 +1,4 @@
--- A body taken apart for steps.
+-- For the contracts of private functions: a body taken apart for steps.
 use mathlib.Core.Path.{_≡_}
 use mathlib.Core.List.{List}
 use Prim.Native.Nat.{_≤_}

@@ -1,4 +1,4 @@
--- Rows and columns of weights laid out one after the other, n weights each.
+-- For the contracts of private functions: rows and columns of weights laid out one after the other, n weights each.
 use mathlib.Core.List.{List, map}
 use Prim.Native.Nat.{ℕ, zero, suc, _+_, _*_, _^_}
 use Rattle.std.specs.Holes.{between}

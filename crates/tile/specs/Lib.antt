@@ -1,3 +1,4 @@
 pub mod Automata
 pub mod Bands
+pub mod Faults
 pub mod Outcomes

@@ -14,8 +14,8 @@ use picture::Record;
 use weight::Weight;
 
 /// A stored body, taken apart for row and column steps, with its arcs indexed by digit and by either end.
-#[derive(Clone, Copy)]
-pub struct Automaton<'a, W> {
+#[derive(Drop)]
+pub(crate) struct Automaton<'a, W> {
     pub states: usize,
     pub first: &'a [W],
     pub last: &'a [W],
@@ -27,7 +27,7 @@ pub struct Automaton<'a, W> {
 
 impl<'a, W: Weight> Automaton<'a, W> {
     /// The body that a place's record and its weights hold.
-    pub fn new(place: &'a Record, weights: &'a [W]) -> Automaton<'a, W>
+    pub(crate) fn new(place: &'a Record, weights: &'a [W]) -> Automaton<'a, W>
         requires kept { ⌜ Kept (now place) ⌝ }
         requires room { ⌜ length (now weights) ≡ 640 ⌝ }
         ensures body { λ r. ⌜ body r ≡ stored (now (place .entry)) (now (weights .entry)) ⌝ }
@@ -49,7 +49,7 @@ impl<'a, W: Weight> Automaton<'a, W> {
     }
 
     /// A row times the digit's matrix.
-    pub fn step_row(&self, row: &[W], quadrant: Quadrant, next: &mut [W])
+    pub(crate) fn step_row(&self, row: &[W], quadrant: Quadrant, next: &mut [W])
         requires ready { ⌜ Ready (now self) ⌝ }
         requires row { ⌜ length (now row) ≡ now self .states ⌝ }
         requires next { ⌜ length (now next) ≡ now self .states ⌝ }
@@ -59,7 +59,7 @@ impl<'a, W: Weight> Automaton<'a, W> {
     }
 
     /// The digit's matrix times a column.
-    pub fn step_column(&self, column: &[W], quadrant: Quadrant, next: &mut [W])
+    pub(crate) fn step_column(&self, column: &[W], quadrant: Quadrant, next: &mut [W])
         requires ready { ⌜ Ready (now self) ⌝ }
         requires column { ⌜ length (now column) ≡ now self .states ⌝ }
         requires next { ⌜ length (now next) ≡ now self .states ⌝ }

@@ -1,4 +1,4 @@
-//! Rows along the cells of a band, and columns along short addresses.
+//! Bands: the rows of cells that share the row number of their coarse digits.
 ghost use mathlib.Core.Path.{_≡_};
 ghost use Prim.Native.Nat.{_+_, _*_, _^_, _≤_, _<_};
 ghost use lib.ListN.{length};
@@ -37,7 +37,7 @@ impl<W: Weight> Automaton<'_, W> {
         self.carry(next, depth - 1, y, rest, &mut rows[half..half + half]);
     }
 
-    /// Writes the rows of cells that share the row `y` of their coarse digits. `rows` has room for sixteen rows.
+    /// Writes the rows of cells that share the row `y` of their coarse digits. `rows` has room for its rows of weights.
     fn band(
         &self,
         row: &[W],

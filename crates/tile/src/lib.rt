@@ -9,7 +9,7 @@ mod printing;
 mod slots;
 mod tiles;
 
-pub use automaton::Automaton;
 pub use plain::cell;
 pub use printing::Fault;
+pub use printing::SCRATCH;
 pub use printing::print;

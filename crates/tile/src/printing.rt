@@ -3,10 +3,11 @@ ghost use mathlib.Core.Path.{_≡_};
 ghost use lib.ListN.{length};
 ghost use Rattle.picture.specs.Pictures.{picture};
 ghost use Rattle.picture.specs.Stored.{stored, Kept};
+ghost use Rattle.tile.specs.Faults.{number};
 ghost use Rattle.tile.specs.Outcomes.{Outcome};
 use crate::automaton::Automaton;
 use crate::powers::power;
-use crate::tiles::SCRATCH;
+use crate::tiles::BANDS;
 use picture::MAX_STATES;
 use picture::Record;
 use weight::Weight;
@@ -17,6 +18,9 @@ const MAX_DEPTH: usize = 12;
 /// The largest depth of a tile.
 const MAX_TILE: usize = 6;
 
+/// How many weights of scratch a print needs: two rows, and the rows and columns of the tile.
+pub const SCRATCH: usize = 2688;
+
 /// Why a tile is not printed.
 #[derive(Clone, Copy)]
 pub enum Fault {
@@ -24,6 +28,18 @@ pub enum Fault {
     NoTile,
     /// The output has no room for the tile's cells.
     ShortOutput,
+}
+
+impl Fault {
+    /// The refusal's number.
+    pub fn number(self) -> u8
+        ensures { λ r. ⌜ r ≡ number self ⌝ }
+    {
+        match self {
+            Fault::NoTile => 15,
+            Fault::ShortOutput => 16,
+        }
+    }
 }
 
 /// Writes the cells at a depth under a prefix of so many digits, and answers how many they are.
@@ -60,6 +76,6 @@ pub fn print<'a, W: Weight>(
     let next = &mut second[0..body.states];
     row.copy_from_slice(body.first);
     body.follow(prefix, digits as u8, row, next);
-    body.tile(row, deep, &mut rest[0..SCRATCH], &mut cells[0..count]);
+    body.tile(row, deep, &mut rest[0..BANDS], &mut cells[0..count]);
     Ok(count)
 }

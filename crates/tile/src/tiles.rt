@@ -25,7 +25,7 @@ const FINE: u8 = 2;
 const SLOTS: usize = 16;
 
 /// How many weights the rows and columns of a tile need: columns, columns of one digit, rows of a band, rows on the way.
-pub(crate) const SCRATCH: usize = 2560;
+pub(crate) const BANDS: usize = 2560;
 
 impl<W: Weight> Automaton<'_, W> {
     /// Takes a row along the digits of a prefix; `next` is room for one row.

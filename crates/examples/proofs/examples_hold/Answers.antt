@@ -9,4 +9,11 @@ returns c = record {
   ink-product-stops = same-ink refl;
   valve-there = refl;
   valve-back = refl;
+  ramp-rises = refl;
+  ramp-mirrored = refl;
+  ramp-squared = refl;
+  ramp-turned = refl;
+  flat-pieced-whole = refl;
+  flat-pieced = refl;
+  flat-composed = refl;
 }

@@ -16,7 +16,7 @@ use Rattle.recipe.specs.declared.place.Place.{Place}
 use Rattle.recipe.specs.declared.reader.grammar.Opening.{Opening}
 use Rattle.recipe.specs.declared.reader.grammar.Opening.the-variants.{At, Bar, Caret, Round, Square}
 use Rattle.recipe.specs.declared.reader.grammar.Start.{Start}
-use Rattle.recipe.specs.declared.reader.grammar.Start.the-variants.{Ahead, Bracket, Corners}
+use Rattle.recipe.specs.declared.reader.grammar.Start.the-variants.{Ahead, Bracket, Pieces}
 use Rattle.recipe.specs.declared.reader.Reader.{Reader}
 use Rattle.recipe.specs.declared.step.Step.{Step}
 use Rattle.recipe.specs.Trees.{Prefix, spelled, Cat, sum, product, part, closed, line, script, Tree, text}
@@ -156,7 +156,7 @@ Opened l a b (Err f) = Lost part l a f
 abbrev pub Begun : Reader → Reader → Start → Type 0
 Begun a b (Ahead s) = (x : Prefix) × (stepOf x ≡ s) × Took (spelled x) a b
 Begun a b Bracket = Took (40 ∷ []) a b
-Begun a b Corners = Took (91 ∷ []) a b
+Begun a b Pieces = Took (91 ∷ []) a b
 
 abbrev pub Starts : ℕ → Reader → Reader → Result Start Fault → Type 0
 Starts l a b (Ok o) = Begun a b o × (l < max-level)

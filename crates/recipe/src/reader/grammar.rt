@@ -29,7 +29,7 @@ enum Opening {
 enum Start {
     Ahead(Step),
     Bracket,
-    Corners,
+    Pieces,
 }
 
 impl Reader<'_> {
@@ -87,7 +87,7 @@ impl Reader<'_> {
                 Ok(Start::Ahead(Step::Zoom(quadrant)))
             }
             Opening::Round => Ok(Start::Bracket),
-            Opening::Square => Ok(Start::Corners),
+            Opening::Square => Ok(Start::Pieces),
         }
     }
 
@@ -121,7 +121,7 @@ impl Reader<'_> {
                 Ok(())
             }
             Start::Bracket => self.closed(around + 1, b')'),
-            Start::Corners => {
+            Start::Pieces => {
                 self.closed(around + 1, b',')?;
                 self.closed(around + 1, b',')?;
                 self.closed(around + 1, b',')?;

@@ -39,34 +39,34 @@ pub part-returns-in-Break-closed : need.part-returns-in-Break-closed
 part-returns-in-Break-closed t c =
     let p = err-from-errBy (c .from-residual-in-Break-closed .result) (c .from-residual-in-Break-closed .ensures .1) in
     let s = c .in-Continue-step .ensures tt in
-    let x = begun-at _ _ (c .in-Corners .is) (s .0) in
+    let x = begun-at _ _ (c .in-Pieces .is) (s .0) in
     rw (p .1, p .2) (lost-first (s .1) x (c .in-Break-closed .ensures tt))
 
 pub part-returns-in-Break-closed-2 : need.part-returns-in-Break-closed-2
 part-returns-in-Break-closed-2 t c =
     let p = err-from-errBy (c .from-residual-in-Break-closed-2 .result) (c .from-residual-in-Break-closed-2 .ensures .1) in
     let s = c .in-Continue-step .ensures tt in
-    let x = begun-at _ _ (c .in-Corners .is) (s .0) in
+    let x = begun-at _ _ (c .in-Pieces .is) (s .0) in
     rw (p .1, p .2) (lost-second (s .1) x (c .in-Continue-closed .ensures tt .0) (c .in-Break-closed-2 .ensures tt))
 
 pub part-returns-in-Break-closed-3 : need.part-returns-in-Break-closed-3
 part-returns-in-Break-closed-3 t c =
     let p = err-from-errBy (c .from-residual-in-Break-closed-3 .result) (c .from-residual-in-Break-closed-3 .ensures .1) in
     let s = c .in-Continue-step .ensures tt in
-    let x = begun-at _ _ (c .in-Corners .is) (s .0) in
+    let x = begun-at _ _ (c .in-Pieces .is) (s .0) in
     rw (p .1, p .2) (lost-third (s .1) x (c .in-Continue-closed .ensures tt .0) (c .in-Continue-closed-2 .ensures tt .0) (c .in-Break-closed-3 .ensures tt))
 
 pub part-returns-in-Break-closed-4 : need.part-returns-in-Break-closed-4
 part-returns-in-Break-closed-4 t c =
     let p = err-from-errBy (c .from-residual-in-Break-closed-4 .result) (c .from-residual-in-Break-closed-4 .ensures .1) in
     let s = c .in-Continue-step .ensures tt in
-    let x = begun-at _ _ (c .in-Corners .is) (s .0) in
+    let x = begun-at _ _ (c .in-Pieces .is) (s .0) in
     rw (p .1, p .2) (lost-fourth (s .1) x (c .in-Continue-closed .ensures tt .0) (c .in-Continue-closed-2 .ensures tt .0) (c .in-Continue-closed-3 .ensures tt .0) (c .in-Break-closed-4 .ensures tt))
 
-pub part-push-requires-in-Corners : need.part-push-requires-in-Corners
-part-push-requires-in-Corners t c κs =
+pub part-push-requires-in-Pieces : need.part-push-requires-in-Pieces
+part-push-requires-in-Pieces t c κs =
     let s = c .in-Continue-step .ensures tt in
-    let x = begun-at _ _ (c .in-Corners .is) (s .0) in
+    let x = begun-at _ _ (c .in-Pieces .is) (s .0) in
     let g₁ = c .in-Continue-closed .ensures tt .0 in
     let g₂ = c .in-Continue-closed-2 .ensures tt .0 in
     let g₃ = c .in-Continue-closed-3 .ensures tt .0 in
@@ -88,8 +88,8 @@ part-returns-in-Bracket t c =
 pub part-returns-in-Continue-closed-4 : need.part-returns-in-Continue-closed-4
 part-returns-in-Continue-closed-4 t c =
     let s = c .in-Continue-step .ensures tt in
-    let x = begun-at _ _ (c .in-Corners .is) (s .0) in
-    (got-pieces (s .1) x (c .in-Continue-closed .ensures tt .0) (c .in-Continue-closed-2 .ensures tt .0) (c .in-Continue-closed-3 .ensures tt .0) (c .in-Continue-closed-4 .ensures tt .0) (c .push-in-Corners .ensures), tt)
+    let x = begun-at _ _ (c .in-Pieces .is) (s .0) in
+    (got-pieces (s .1) x (c .in-Continue-closed .ensures tt .0) (c .in-Continue-closed-2 .ensures tt .0) (c .in-Continue-closed-3 .ensures tt .0) (c .in-Continue-closed-4 .ensures tt .0) (c .push-in-Pieces .ensures), tt)
 
 pub product-returns-in-Break-part : need.product-returns-in-Break-part
 product-returns-in-Break-part t c =

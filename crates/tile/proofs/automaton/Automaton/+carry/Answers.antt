@@ -5,7 +5,7 @@ use Prim.Native.Nat.{_-_, _/_}
 use lib.ListN.{length}
 use Rattle.picture.specs.Steps.{stepped}
 use Rattle.tile.specs.Automata.{edges}
-use Rattle.tile.proofs.Rows.{rows-one, rows-more, half-is, two-halves, two-parts, second-part}
+use Rattle.tile.proofs.Rows.{rows-more, half-is, two-halves, two-parts, second-part}
 use Rattle.tile.proofs.automaton.Automaton.+carry.Needs as need
 
 pub carry-requires : need.carry-requires
