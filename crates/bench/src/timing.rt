@@ -69,6 +69,9 @@ pub(crate) fn compare(rt: &LibcRuntime) -> Result<(), AnyError> {
     let agree = evaluate(&place, &weights, &cells, &mut room);
     let plain = start.elapsed(rt)?.as_micros();
     let ratio = plain / fast.max(1);
-    println!(rt, "tile {fast} us, plain {plain} us, ratio {ratio}, cells agree: {agree}")?;
+    println!(
+        rt,
+        "tile {fast} us, plain {plain} us, ratio {ratio}, cells agree: {agree}"
+    )?;
     Ok(())
 }

@@ -2,11 +2,15 @@
 ghost use Rattle.examples.specs.Examples.{Examples};
 
 #[cfg(test)]
+mod compositions;
+#[cfg(test)]
 mod recipes;
 #[cfg(test)]
 mod tiles;
 #[cfg(test)]
 mod weights;
+#[cfg(test)]
+mod words;
 
 /// The worked examples hold.
 pub fn examples_hold()

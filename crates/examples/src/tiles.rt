@@ -105,6 +105,80 @@ fn ramp_tiles() -> Result<(), Fail> {
     ))
 }
 
+/// Fills in weights by which each cell is the number of its address in base 4: the second state's loops are of 4.
+fn fill_numbers(weights: &mut [Grey]) {
+    for (i, weight) in weights.iter_mut().enumerate() {
+        *weight = Grey::new(
+            match i {
+                0 | 65 | 128..=131 => 1,
+                132..=135 => i as u32 - 132,
+                136..=139 => 4,
+                _ => 0,
+            },
+        );
+    }
+}
+
+/// An arc for each digit.
+fn fan(from: u8, to: u8) -> [Arc; 4] {
+    [
+        arc(from, to, Quadrant::UpperLeft),
+        arc(from, to, Quadrant::UpperRight),
+        arc(from, to, Quadrant::LowerLeft),
+        arc(from, to, Quadrant::LowerRight),
+    ]
+}
+
+/// The number of the cell's address at depth 6: its digits take a bit of the row and one of the column each.
+fn number(x: usize, y: usize) -> usize {
+    let mut number = 0usize;
+    for bit in [5u32, 4, 3, 2, 1, 0] {
+        let digit = (x >> bit) % 2 + 2 * ((y >> bit) % 2);
+        number = number.wrapping_mul(4).wrapping_add(digit);
+    }
+    number
+}
+
+/// Whether each cell of a tile has the number of its address, counted from a start.
+fn in_order(cells: &[Grey], start: usize) -> bool {
+    let mut same = true;
+    for (i, cell) in cells.iter().enumerate() {
+        let due = start.wrapping_add(number(i % 64, i / 64)) % 65_536;
+        same = same && cell.number() as usize == due;
+    }
+    same
+}
+
+#[test]
+fn a_full_tile_in_order() -> Result<(), Fail> {
+    let (a, b, c) = (fan(0, 0), fan(0, 1), fan(1, 1));
+    let arcs = [
+        a[0],
+        a[1],
+        a[2],
+        a[3],
+        b[0],
+        b[1],
+        b[2],
+        b[3],
+        c[0],
+        c[1],
+        c[2],
+        c[3],
+    ];
+    let Some(place) = Record::new(2, &arcs) else {
+        return Err(Fail::new("no record"));
+    };
+    let mut weights = [Grey::new(0); BAY];
+    let mut scratch = [Grey::new(9); SCRATCH];
+    let mut cells = [Grey::new(8); 4096];
+    fill_numbers(&mut weights);
+    check(print(&place, &weights, 6, 0, 0, &mut scratch, &mut cells).is_ok())?;
+    check(in_order(&cells, 0))?;
+    check(print(&place, &weights, 8, 2, 6, &mut scratch, &mut cells).is_ok())?;
+    check(in_order(&cells, 6 * 4096))
+}
+
 #[test]
 fn parallel_arcs_add_up() -> Result<(), Fail> {
     let both = [

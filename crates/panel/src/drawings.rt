@@ -27,7 +27,7 @@ pub(crate) fn input(rt: &LibcRuntime) -> Result<Vec<u32>, AnyError> {
 }
 
 /// Words in base 16, with white space between them.
-fn parse(rt: &LibcRuntime, text: &str) -> Result<Vec<u32>, AnyError> {
+pub(crate) fn parse(rt: &LibcRuntime, text: &str) -> Result<Vec<u32>, AnyError> {
     let mut words = Vec::new(rt.alloc());
     for word in text.split_whitespace() {
         words.push(u32::from_str_radix(word, 16)?)?;
@@ -51,7 +51,12 @@ pub(crate) fn work<W: Shown>(rt: &LibcRuntime, given: &[u32], task: Task) -> Res
 }
 
 /// The words of the body, written again into so much room.
-fn write_back<W: Shown>(rt: &LibcRuntime, place: &Record, weights: &[W], room: usize) -> Result<(), AnyError>
+fn write_back<W: Shown>(
+    rt: &LibcRuntime,
+    place: &Record,
+    weights: &[W],
+    room: usize,
+) -> Result<(), AnyError>
     requires kept { ⌜ Kept (now place) ⌝ }
     requires weights { ⌜ length (now weights) ≡ 640 ⌝ }
 {

@@ -1,4 +1,5 @@
 //! Shows drawings that are given as words, and recipes.
+mod compositions;
 mod drawings;
 mod embedded;
 mod kinds;
@@ -13,12 +14,14 @@ use std::error::AnyError;
 use tiles::Tile;
 
 /// How the program is called.
-const USAGE: &str = "panel, or panel show DEPTH LENGTH PREFIX, or panel picture DEPTH LENGTH PREFIX, or panel recipe LINE";
+const USAGE: &str =
+    "panel, or panel show DEPTH LENGTH PREFIX, or panel picture DEPTH LENGTH PREFIX, or panel recipe LINE";
 
 /// What is done where no argument asks for something else.
 fn tour(rt: &LibcRuntime) -> Result<(), AnyError> {
     let words = drawings::input(rt)?;
     kinds::carry_out(rt, &words, Task::Show(Tile::WHOLE))?;
+    compositions::show(rt)?;
     recipes::explain(rt, embedded::RECIPE)
 }
 

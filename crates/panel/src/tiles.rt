@@ -48,23 +48,44 @@ impl Tile {
 }
 
 /// The tile's cells, or none with an explanation.
-fn cells<W: Shown>(rt: &LibcRuntime, place: &Record, weights: &[W], tile: Tile) -> Result<Vec<W>, AnyError>
+fn cells<W: Shown>(
+    rt: &LibcRuntime,
+    place: &Record,
+    weights: &[W],
+    tile: Tile,
+) -> Result<Vec<W>, AnyError>
     requires kept { ⌜ Kept (now place) ⌝ }
     requires weights { ⌜ length (now weights) ≡ 640 ⌝ }
 {
     let mut scratch = zeros::<W>(rt.alloc(), SCRATCH)?;
     let mut cells = zeros::<W>(rt.alloc(), tile.room())?;
-    match print(place, weights, tile.depth, tile.digits, tile.prefix, &mut scratch, &mut cells) {
+    match print(
+        place,
+        weights,
+        tile.depth,
+        tile.digits,
+        tile.prefix,
+        &mut scratch,
+        &mut cells,
+    ) {
         Ok(_) => Ok(cells),
         Err(fault) => {
             let number = fault.number();
-            Err(format!(rt.alloc(), "refused {number}: the numbers name no tile that can be printed")?.into())
+            Err(format!(
+                rt.alloc(),
+                "refused {number}: the numbers name no tile that can be printed"
+            )?.into())
         }
     }
 }
 
 /// A line of numbers for each row of a tile.
-pub(crate) fn numbers<W: Shown>(rt: &LibcRuntime, place: &Record, weights: &[W], tile: Tile) -> Result<(), AnyError>
+pub(crate) fn numbers<W: Shown>(
+    rt: &LibcRuntime,
+    place: &Record,
+    weights: &[W],
+    tile: Tile,
+) -> Result<(), AnyError>
     requires kept { ⌜ Kept (now place) ⌝ }
     requires weights { ⌜ length (now weights) ≡ 640 ⌝ }
 {
@@ -86,7 +107,12 @@ fn rows<W: Shown>(rt: &LibcRuntime, cells: &[W], side: usize) -> Result<(), AnyE
 }
 
 /// A tile as a plain PGM, or as a plain PBM where there are two shades.
-pub(crate) fn picture<W: Shown>(rt: &LibcRuntime, place: &Record, weights: &[W], tile: Tile) -> Result<(), AnyError>
+pub(crate) fn picture<W: Shown>(
+    rt: &LibcRuntime,
+    place: &Record,
+    weights: &[W],
+    tile: Tile,
+) -> Result<(), AnyError>
     requires kept { ⌜ Kept (now place) ⌝ }
     requires weights { ⌜ length (now weights) ≡ 640 ⌝ }
 {

@@ -9,7 +9,7 @@ use Rattle.picture.specs.declared.body.Arc.{Arc}
 use Rattle.picture.specs.declared.quadrant.Quadrant.{Quadrant}
 use Rattle.picture.specs.declared.quadrant.Quadrant.the-variants.{UpperLeft, UpperRight, LowerLeft, LowerRight}
 use Rattle.words.specs.Format.{head-word, arc-word}
-use Rattle.words.specs.Layout.{bits, HeadBits, ArcBits, Head-layout, Arc-layout}
+use Rattle.words.specs.Layout.{bits, Head-layout, Arc-layout}
 
 digit-below : (q : Quadrant) → digit q < 4
 digit-below UpperLeft = omega arith

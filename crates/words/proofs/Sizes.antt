@@ -1,7 +1,7 @@
 -- How many words states, arcs and bodies have.
-use mathlib.Core.Path.{_≡_, refl, sym, ap, ap₂, _∙_}
+use mathlib.Core.Path.{_≡_, sym, ap, ap₂, _∙_}
 use mathlib.Core.List.{List, [], _∷_, _++_}
-use Prim.Native.Nat.{ℕ, suc, _+_, _*_}
+use Prim.Native.Nat.{ℕ, _+_, _*_}
 use native.Mathlib.Nat.{zero-mul, suc-mul}
 use native.Mathlib.Omega.{arith}
 use lib.ListN.{length}
@@ -11,7 +11,7 @@ use Rattle.std.proofs.shelf.Lists.{length-append}
 use Rattle.std.proofs.shelf.Pairs.{length-zipped}
 use Rattle.weight.specs.Words.{Writing}
 use Rattle.picture.specs.Bodies.{Body, Edge}
-use Rattle.words.specs.Format.{state-words, edge-words, words-of, size, Limited}
+use Rattle.words.specs.Format.{state-words, edge-words, size, Limited}
 
 module _ {W : Type 0} (s : Writing W) (count : (v : W) → length (s .words v) ≡ s .width) where
   pub size-states : (zs : List (W × W)) → length (joined (state-words s) zs) ≡ length zs * (2 * s .width)

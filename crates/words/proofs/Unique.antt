@@ -1,8 +1,8 @@
 -- Words have one reading.
 use mathlib.Core.Path.{_≡_, refl, sym, ap, ap₂, subst, _∙_}
 use mathlib.Core.List.{List, [], _∷_, _++_, map}
-use mathlib.Core.Logic.{_⊎_, inl, inr}
-use Prim.Native.Nat.{ℕ, zero, suc, _+_, _*_, _<_, _≤_}
+use mathlib.Core.Logic.{inl, inr}
+use Prim.Native.Nat.{ℕ, _+_, _<_, _≤_}
 use native.Mathlib.Omega.{arith}
 use lib.ListN.{length, take, drop}
 use Rattle.std.specs.Finite.{zipped}
@@ -13,8 +13,8 @@ use Rattle.std.proofs.shelf.Pairs.{firsts-zipped, seconds-zipped}
 use Rattle.weight.specs.Words.{Writing, WordLaws}
 use Rattle.picture.specs.Bodies.{Body, Edge, Within}
 use Rattle.picture.specs.declared.body.Arc.{Arc}
-use Rattle.words.specs.Format.{head-word, arc-word, state-words, edge-words, words-of, size, Limited, SpellsBody}
-use Rattle.words.specs.Faults.{Headed, Counted, Refused}
+use Rattle.words.specs.Format.{arc-word, state-words, edge-words, size, SpellsBody}
+use Rattle.words.specs.Faults.{Headed, Refused}
 use Rattle.words.specs.Laws.{One-body, No-body, One-fault}
 use Rattle.words.specs.Wrong.{Piece, a-weight, an-arc, state-pieces, arc-pieces, FirstWrong}
 use Rattle.words.specs.declared.fault.Fault.{Fault}

@@ -1,7 +1,7 @@
 -- Writing states and arcs one after the other.
-use mathlib.Core.Path.{_≡_, refl, sym, ap, ap₂, subst, _∙_}
+use mathlib.Core.Path.{_≡_, sym, ap, ap₂, _∙_}
 use mathlib.Core.List.{List, [], _∷_, _++_}
-use Prim.Native.Nat.{ℕ, zero, suc, _+_, _-_, _*_, _<_, _≤_}
+use Prim.Native.Nat.{ℕ, suc, _+_, _-_, _*_, _<_, _≤_}
 use native.Mathlib.Nat.{suc-mul, mul-le-mul-right}
 use native.Mathlib.Numerals.{add-one}
 use native.Mathlib.Omega.{arith}
@@ -18,7 +18,7 @@ use Rattle.weight.specs.Words.{Writing}
 use Rattle.picture.specs.Stored.{stored, Kept}
 use Rattle.picture.specs.declared.body.Arc.{Arc}
 use Rattle.picture.specs.declared.body.Record.{Record}
-use Rattle.words.specs.Format.{head-word, arc-word, state-words, edge-words, words-of, size}
+use Rattle.words.specs.Format.{head-word, arc-word, state-words, edge-words, words-of}
 use Rattle.words.specs.Inner.{states-in}
 use Rattle.words.proofs.Rows.{zipped-push, state-push, edge-push, length-states-in}
 use Rattle.words.proofs.Sizes.{size-states, size-arcs, size-body}

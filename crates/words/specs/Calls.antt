@@ -14,7 +14,7 @@ use Rattle.words.specs.Format.{words-of, SpellsBody}
 use Rattle.words.specs.Faults.{Refused, Unwritten}
 use Rattle.words.specs.declared.fault.Fault.{Fault}
 use Rattle.words.specs.declared.fault.TripFault.{TripFault}
-use Rattle.words.specs.declared.fault.TripFault.the-variants.{Reading, Writing as WritingFailed}
+use Rattle.words.specs.declared.fault.TripFault.the-variants.{Read, Write}
 use Rattle.words.specs.declared.fault.WriteFault.{WriteFault}
 
 -- what is read is a body with these words; a refusal names the fault of these words, and changes no weight
@@ -36,8 +36,8 @@ Wrote s words out out′ r =
 
 -- the fault of words that are read and written again; if they cannot be read, no weight is changed
 abbrev pub Unrepeated : {W : Type 0} → Writing W → (given out : List ℕ) (before after : List W) → TripFault → Type 0
-Unrepeated s given out before after (Reading f) = Refused s given f × (after ≡ before)
-Unrepeated s given out before after (WritingFailed f) = Unwritten s (length given) (length out) f
+Unrepeated s given out before after (Read f) = Refused s given f × (after ≡ before)
+Unrepeated s given out before after (Write f) = Unwritten s (length given) (length out) f
 
 -- words that are read and written again are the same
 abbrev pub Rewritten : {W : Type 0} → Writing W → (given out out′ : List ℕ) (before after : List W) → Result ℕ TripFault → Type 0

@@ -9,10 +9,7 @@ use picture::Quadrant;
 pub(crate) fn arc_word(a: Arc) -> u32
     ensures { λ r. ⌜ r ≡ arc-word a ⌝ }
 {
-    0x2000_0000
-        + a.quadrant.digit() as u32 * 0x400_0000
-        + a.from as u32 * 0x100
-        + a.to as u32
+    0x2000_0000 + a.quadrant.digit() as u32 * 0x400_0000 + a.from as u32 * 0x100 + a.to as u32
 }
 
 /// The arc of an arc word whose ends are below n.

@@ -2,7 +2,7 @@ ghost use mathlib.Core.Path.{_≡_};
 ghost use Rattle.words.specs.Faults.{number-and-index, write-number};
 ghost use Rattle.words.specs.declared.fault.Fault.the-variants.{Piece};
 ghost use Rattle.words.specs.declared.fault.PieceFault.the-variants.{WrongArc, WrongWeight};
-ghost use Rattle.words.specs.declared.fault.TripFault.the-variants.{Reading, Writing};
+ghost use Rattle.words.specs.declared.fault.TripFault.the-variants.{Read, Write};
 
 /// No word, or none that serves, stands at this index.
 #[derive(Clone, Copy)]
@@ -48,8 +48,8 @@ pub enum WriteFault {
 /// Why words are not read and written again.
 #[derive(Clone, Copy)]
 pub enum TripFault {
-    Reading(Fault),
-    Writing(WriteFault),
+    Read(Fault),
+    Write(WriteFault),
 }
 
 pub(crate) impl From<WordFault> for ArcFault as ArcFromWord {
@@ -85,18 +85,18 @@ pub(crate) impl From<PieceFault> for Fault as FaultFromPiece {
 }
 
 pub(crate) impl From<Fault> for TripFault as TripFromFault {
-    ghost converts = { λ f r. r ≡ Reading f };
+    ghost converts = { λ f r. r ≡ Read f };
 
     fn from(f: Fault) -> TripFault {
-        TripFault::Reading(f)
+        TripFault::Read(f)
     }
 }
 
 pub(crate) impl From<WriteFault> for TripFault as TripFromWrite {
-    ghost converts = { λ f r. r ≡ Writing f };
+    ghost converts = { λ f r. r ≡ Write f };
 
     fn from(f: WriteFault) -> TripFault {
-        TripFault::Writing(f)
+        TripFault::Write(f)
     }
 }
 

@@ -1,6 +1,6 @@
 ghost use mathlib.Core.Path.{_≡_};
 ghost use mathlib.Core.List.{[], _∷_, _++_};
-ghost use Prim.Native.Nat.{ℕ, _<_, _≤_};
+ghost use Prim.Native.Nat.{_<_, _≤_};
 ghost use lib.ListN.{length};
 ghost use Rattle.std.specs.Results.{Cases};
 ghost use Rattle.std.specs.Finite.{zipped};
@@ -11,6 +11,8 @@ ghost use Rattle.words.specs.Format.{arc-word, state-words, edge-words};
 ghost use Rattle.words.specs.Inner.{Took, Fits, states-in, ReadBody};
 ghost use Rattle.words.specs.Wrong.{state-pieces, arc-pieces, NoWeight, NoArc, FirstWrong};
 ghost use Rattle.words.specs.declared.fault.PieceFault.the-variants.{WrongWeight};
+use crate::ARC_WEIGHTS;
+use crate::LAST_WEIGHTS;
 use crate::arc::read_arc;
 use crate::fault::ArcFault;
 use crate::fault::ArcFromWord;
@@ -22,13 +24,9 @@ use crate::fault::WordFault;
 use crate::head::Counts;
 use picture::Arc;
 use picture::MAX_ARCS;
-use picture::MAX_STATES;
 use picture::Quadrant;
 use picture::Record;
 use weight::Written;
-
-/// Where the arc weights of a body begin among its weights.
-const ARC_WEIGHTS: usize = 2 * MAX_STATES;
 
 /// Reads words in place, and keeps its position.
 #[derive(Drop)]
@@ -102,7 +100,7 @@ impl Reader<'_> {
     {
         for q in 0..n {
             weights[q] = self.weight()?;
-            weights[MAX_STATES + q] = self.weight()?;
+            weights[LAST_WEIGHTS + q] = self.weight()?;
         }
         Ok(())
     }

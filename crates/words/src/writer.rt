@@ -7,17 +7,15 @@ ghost use Rattle.picture.specs.Stored.{stored, Kept};
 ghost use Rattle.words.specs.Calls.{Wrote};
 ghost use Rattle.words.specs.Format.{state-words, edge-words, words-of, Limited};
 ghost use Rattle.words.specs.Inner.{states-in};
+use crate::ARC_WEIGHTS;
+use crate::LAST_WEIGHTS;
 use crate::arc::arc_word;
 use crate::fault::WriteFault;
 use crate::head::head_word;
 use picture::Arc;
-use picture::MAX_STATES;
 use picture::Record;
 use weight::TOO_WIDE;
 use weight::Written;
-
-/// Where the arc weights of a body begin among its weights.
-const ARC_WEIGHTS: usize = 2 * MAX_STATES;
 
 /// Writes the words of a weight.
 fn write_weight<W: Written>(value: W, out: &mut [u32])
@@ -42,7 +40,7 @@ fn write_states<W: Written>(weights: &[W], n: usize, out: &mut [u32])
     let mut at = 0;
     for q in 0..n {
         write_weight(weights[q], &mut out[at..at + c]);
-        write_weight(weights[MAX_STATES + q], &mut out[at + c..at + 2 * c]);
+        write_weight(weights[LAST_WEIGHTS + q], &mut out[at + c..at + 2 * c]);
         at += 2 * c;
     }
 }

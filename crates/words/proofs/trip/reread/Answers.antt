@@ -1,12 +1,10 @@
-use mathlib.Core.Path.{_≡_, sym, ap, _∙_}
+use mathlib.Core.Path.{_≡_, ap, _∙_}
 use mathlib.Core.List.{_++_}
 use Prim.Native.Nat.{ℕ}
 use native.Mathlib.Omega.{arith}
-use lib.ListN.{length, drop}
-use Rattle.std.specs.Holes.{between}
-use Rattle.std.specs.declared.result.Result.the-variants.{Ok, Err}
+use lib.ListN.{drop}
 use Rattle.picture.specs.Stored.{stored}
-use Rattle.words.specs.Format.{words-of, SpellsBody}
+use Rattle.words.specs.Format.{words-of}
 use Rattle.words.proofs.Taking.{front-written}
 use Rattle.words.proofs.trip.reread.Needs as need
 

@@ -1,7 +1,6 @@
-use mathlib.Core.Path.{_≡_, refl, sym, subst}
+use mathlib.Core.Path.{_≡_, refl, sym}
 use native.Mathlib.Omega.{arith}
 use borrow.Author.Needs.{needs}
-use Prim.Native.Nat.{_<_}
 use lib.ListN.{length}
 use Rattle.words.proofs.Storing.{stored-limited}
 use Rattle.words.proofs.Writing.{length-words, body-written}
@@ -21,7 +20,7 @@ returns-then-out-end g c =
     let count = g .W·Written·met .words .count (omega arith) in
     let long = length-words (g .W·Written .writing) count (c .args .place .now) (c .args .weights .now) (c .pre .kept) full (c .pre .room) (c .width-c .result) (c .width-c .ensures) in
     record {
-      outcome = ((omega arith, subst (λ x. length (c .args .out .now) < x) (sym long) (c .if-out-end .taken)), refl);
+      outcome = ((omega arith, omega (arith, long)), refl);
       limited = stored-limited (c .args .place .now) (c .args .weights .now) (c .pre .kept) full (c .pre .room);
     }
 
@@ -35,7 +34,7 @@ returns g c =
         omega arith,
         sym (length-words s count (c .args .place .now) (c .args .weights .now) (c .pre .kept) full (c .pre .room) (c .width-c .result) (c .width-c .ensures)),
         body-written s count (c .args .place .now) (c .args .weights .now) (c .pre .kept) full (c .pre .room) (c .width-c .result) (c .head-word .result) (c .args .out .now) (c .write-states .last .out) (c .write-arcs .last .out)
-            (c .width-c .ensures) (c .head-word .ensures) (c .write-states .ensures) (c .write-arcs .ensures) (c .if-out-end .left),
+            (c .width-c .ensures) (c .head-word .ensures) (c .write-states .ensures) (c .write-arcs .ensures) (omega arith),
       );
       limited = stored-limited (c .args .place .now) (c .args .weights .now) (c .pre .kept) full (c .pre .room);
     }

@@ -1,0 +1,10 @@
+pub mod Bounds
+pub mod Copies
+pub mod Zipped
+pub mod Written
+pub mod Adding
+pub mod Moving
+pub mod Counting
+pub mod Appending
+pub mod Pairing
+pub mod Producing

@@ -1,0 +1,3 @@
+pub mod NewState
+pub mod PartArcs
+pub mod FourParts
