@@ -4,7 +4,3 @@ pub mod Zipped
 pub mod Written
 pub mod Adding
 pub mod Moving
-pub mod Counting
-pub mod Appending
-pub mod Pairing
-pub mod Producing

@@ -29,7 +29,7 @@ pub fn over_limit(states: usize, arcs: usize) -> Option<Fault>
 }
 
 /// Why a product of so many states and arcs is refused: on a kind that does not exchange every product is.
-pub(crate) fn product_fault<W: Weight>(states: usize, arcs: usize) -> Option<Fault>
+pub fn product_fault<W: Weight>(states: usize, arcs: usize) -> Option<Fault>
     ensures { λ r. ⌜ r ≡ product-excess kind states arcs ⌝ }
 {
     if !W::exchanges() {

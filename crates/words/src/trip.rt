@@ -47,12 +47,10 @@ pub fn reread<W: Written>(
 }
 
 /// Equal words mean equal bodies, words with a fault are those of no body and have one fault, and words have their fields at their bits.
-pub fn words_are_one<W: Written>() -> u8
+pub fn words_are_one<W: Written>()
     ensures body { λ _. ⌜ One-body {W = W} writing ⌝ }
     ensures none { λ _. ⌜ No-body {W = W} writing ⌝ }
     ensures fault { λ _. ⌜ One-fault {W = W} writing ⌝ }
     ensures heads { λ _. ⌜ Head-layout {W = W} writing ⌝ }
     ensures arcs { λ _. ⌜ Arc-layout ⌝ }
-{
-    0
-}
+{}

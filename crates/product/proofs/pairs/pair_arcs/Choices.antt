@@ -7,8 +7,8 @@ use Rattle.std.specs.shelf.Lists.{All}
 use Rattle.std.proofs.shelf.Pairs.{pairs-rest}
 use Rattle.picture.specs.Bodies.{Within}
 use Rattle.picture.specs.BodyOperations.{arc-pairs}
-use Rattle.compose.specs.Ends.{pair-ends}
-use Rattle.compose.proofs.products.pair_arcs.Given as given
+use Rattle.product.specs.Ends.{pair-ends}
+use Rattle.product.proofs.pairs.pair_arcs.Given as given
 
 abbrev pub Inv-loop-arc : given.InvT-loop-arc
 Inv-loop-arc g l =

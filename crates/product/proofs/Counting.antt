@@ -19,7 +19,7 @@ use Rattle.picture.specs.Quadrants.{same}
 use Rattle.picture.specs.declared.body.Arc.{Arc}
 use Rattle.picture.specs.declared.quadrant.Quadrant.{Quadrant}
 use Rattle.picture.specs.declared.quadrant.Quadrant.the-variants.{UpperLeft, UpperRight, LowerLeft, LowerRight}
-use Rattle.compose.specs.Counts.{tally, matches}
+use Rattle.product.specs.Counts.{tally, matches}
 
 module _ (d : Quadrant) (arcs : List Arc) (i : ℕ) (a : Arc) (h : i < length arcs) where
   tally-step : tally d (take (i + 1) arcs) ≡ tally d (take i arcs) + length (cond (same d (getD arcs i a .quadrant)) (getD arcs i a ∷ []) [])

@@ -18,7 +18,7 @@ use Rattle.picture.specs.BodyOperations.{paired, arc-pair}
 use Rattle.picture.specs.Quadrants.{same}
 use Rattle.picture.proofs.Embeddings.{Ends}
 use Rattle.picture.proofs.StateSums.{length-paired, getD-paired}
-use Rattle.compose.specs.Ends.{pair-ends}
+use Rattle.product.specs.Ends.{pair-ends}
 
 positive : (a b i : ℕ) → i < a * b → 0 < b
 positive a b i h = elim (cases-lt 0 b) [ inl p ↦ p | inr z ↦ let e : a * b ≡ 0 = ap (λ x. a * x) (omega arith) ∙ mul-zero a in absurd (omega arith) ]

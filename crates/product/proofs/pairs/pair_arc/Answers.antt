@@ -5,9 +5,9 @@ use Rattle.std.specs.Finite.{zipped}
 use Rattle.std.specs.Parts.{iter-rest}
 use Rattle.std.proofs.shelf.Pairs.{pairs-rest, pairs-rest-all, pairs-rest-more}
 use Rattle.picture.specs.BodyOperations.{arc-pair}
-use Rattle.compose.proofs.Appending.{append-more, append-end, count-more, count-end}
-use Rattle.compose.proofs.Pairing.{pair-is}
-use Rattle.compose.proofs.products.pair_arc.Needs as need
+use Rattle.product.proofs.Appending.{append-more, append-end, count-more, count-end}
+use Rattle.product.proofs.Pairing.{pair-is}
+use Rattle.product.proofs.pairs.pair_arc.Needs as need
 
 started : (g : _) (c : need.After-into-iter-other-iterator g) → pairs-rest (c .into-iter-other-iterator .result) ≡ zipped (c .args .others .now) (c .args .factors .now)
 started g c =

@@ -7,8 +7,8 @@ use Prim.Native.Nat.{_<_}
 use lib.ListN.{length}
 use lib.Seq.{getD-set-same, getD-set-other}
 use Rattle.std.proofs.shelf.Lists.{getD-read}
-use Rattle.compose.proofs.Pairing.{row-below, column-below, paired-is}
-use Rattle.compose.proofs.products.pair_weights.Needs as need
+use Rattle.product.proofs.Pairing.{row-below, column-below, paired-is}
+use Rattle.product.proofs.pairs.pair_weights.Needs as need
 
 pub offset-xs-i : need.offset-xs-i
 offset-xs-i g c = let h = row-below (length (c .args .xs .now)) (length (c .args .ys .now)) (c .loop-i .i) _ (c .pre) (omega arith) in omega arith

@@ -9,12 +9,12 @@ use Rattle.picture.specs.Pictures.{picture}
 use Rattle.picture.specs.Stored.{stored}
 use Rattle.picture.proofs.ProductPictures.{product-sound, product-shows}
 use Rattle.picture.proofs.Storing.{stored-sound}
 use Rattle.compose.specs.Faults.{product-excess}
 use Rattle.compose.proofs.Bounds.{product-within}
-use Rattle.compose.proofs.Pairing.{small-ends}
-use Rattle.compose.proofs.Producing.{product-count}
+use Rattle.product.proofs.Pairing.{small-ends}
+use Rattle.product.proofs.Producing.{product-count}
 use Rattle.compose.proofs.Written.{body-made}
-use Rattle.compose.proofs.products.multiply.Needs as need
+use Rattle.product.proofs.multiplying.multiply.Needs as need
 
 pub returns-in-Some : need.returns-in-Some
 returns-in-Some g c =

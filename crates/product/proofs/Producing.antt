@@ -8,9 +8,9 @@ use Rattle.weight.specs.Kinds.{Kind}
 use Rattle.picture.specs.BodyOperations.{product-body}
 use Rattle.picture.specs.Stored.{stored, Kept}
 use Rattle.picture.specs.declared.body.Record.{Record}
-use Rattle.compose.specs.Counts.{matches}
-use Rattle.compose.proofs.Counting.{product-length}
+use Rattle.product.specs.Counts.{matches}
+use Rattle.product.proofs.Counting.{product-length}
 use Rattle.compose.proofs.Zipped.{arcs-long, weights-long}
 
 module _ {W : Type 0} (k : Kind W) (a b : Record) (front back : List W) (ka : Kept a) (kb : Kept b) (ra : length front ≡ 640) (rb : length back ≡ 640)
     (fa : length (a .arcs) ≡ 512) (fb : length (b .arcs) ≡ 512) where

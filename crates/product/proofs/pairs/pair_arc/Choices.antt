@@ -8,8 +8,8 @@ use Rattle.std.specs.shelf.Lists.{All}
 use Rattle.std.proofs.shelf.Pairs.{pairs-rest}
 use Rattle.picture.specs.Bodies.{Within}
 use Rattle.picture.specs.BodyOperations.{arc-pair}
-use Rattle.compose.specs.Ends.{pair-ends}
-use Rattle.compose.proofs.products.pair_arc.Given as given
+use Rattle.product.specs.Ends.{pair-ends}
+use Rattle.product.proofs.pairs.pair_arc.Given as given
 
 abbrev pub Inv-loop-other : given.InvT-loop-other
 Inv-loop-other g l =

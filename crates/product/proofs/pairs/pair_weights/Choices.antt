@@ -2,7 +2,7 @@ use mathlib.Core.Path.{_≡_}
 use Prim.Native.Nat.{ℕ, _/_, _%_, _<_}
 use lib.ListN.{length}
 use Rattle.picture.specs.Steps.{at-state}
-use Rattle.compose.proofs.products.pair_weights.Given as given
+use Rattle.product.proofs.pairs.pair_weights.Given as given
 
 abbrev pub Inv-loop-i : given.InvT-loop-i
 Inv-loop-i g l =

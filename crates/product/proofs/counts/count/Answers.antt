@@ -4,10 +4,10 @@ use Rattle.std.proofs.shelf.Lists.{take-all}
 use Rattle.picture.specs.BodyOperations.{arc-from}
 use Rattle.picture.specs.declared.body.Arc.{Arc}
 use Rattle.picture.specs.declared.quadrant.Quadrant.the-variants.{UpperLeft}
-use Rattle.compose.specs.Counts.{tally}
-use Rattle.compose.proofs.Counting.{tally-same, tally-other}
-use Rattle.compose.proofs.products.count.Needs as need
-use Rattle.compose.proofs.products.count.Needs.{then-is, else-is}
+use Rattle.product.specs.Counts.{tally}
+use Rattle.product.proofs.Counting.{tally-same, tally-other}
+use Rattle.product.proofs.counts.count.Needs as need
+use Rattle.product.proofs.counts.count.Needs.{then-is, else-is}
 
 -- the default at which an arc is read
 abbrev none : Arc

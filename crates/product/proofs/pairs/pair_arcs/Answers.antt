@@ -9,8 +9,8 @@ use Rattle.std.specs.Parts.{iter-rest}
 use Rattle.std.proofs.shelf.Lists.{take-all}
 use Rattle.std.proofs.shelf.Pairs.{pairs-rest, pairs-rest-all, pairs-rest-more}
 use Rattle.picture.specs.BodyOperations.{arc-pair}
-use Rattle.compose.proofs.Appending.{join-room, join-more, join-end}
-use Rattle.compose.proofs.products.pair_arcs.Needs as need
+use Rattle.product.proofs.Appending.{join-room, join-more, join-end}
+use Rattle.product.proofs.pairs.pair_arcs.Needs as need
 
 started : (g : _) (c : need.After-into-iter-arc-iterator g) → pairs-rest (c .into-iter-arc-iterator .result) ≡ zipped (c .args .arcs .now) (c .args .weights .now)
 started g c =

@@ -1,0 +1,4 @@
+pub mod Counting
+pub mod Appending
+pub mod Pairing
+pub mod Producing
