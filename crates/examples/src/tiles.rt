@@ -10,8 +10,14 @@ use tile::cell;
 use tile::print;
 use weight::Grey;
 use weight::GreyWeight;
+use weight::Height;
+use weight::HeightWeight;
 use weight::Ink;
 use weight::InkWeight;
+use weight::Mask;
+use weight::MaskWeight;
+use weight::Pair;
+use weight::PairWeight;
 use weight::Valve;
 use weight::ValveWeight;
 use weight::Weight;
@@ -216,7 +222,7 @@ fn corner<W: Weight>(weights: &mut [W], scratch: &mut [W]) -> Option<W> {
 }
 
 #[test]
-fn other_kinds() -> Result<(), Fail> {
+fn numbers_of_kinds() -> Result<(), Fail> {
     let Some(grey) = corner(&mut [Grey::new(0); BAY], &mut [Grey::new(5); 128]) else {
         return Err(Fail::new("no grey"));
     };
@@ -225,10 +231,34 @@ fn other_kinds() -> Result<(), Fail> {
         return Err(Fail::new("no ink"));
     };
     check_eq(ink.number(), 3)?;
+    let Some(height) = corner(&mut [Height::new(0); BAY], &mut [Height::new(5); 128]) else {
+        return Err(Fail::new("no height"));
+    };
+    check_eq(height.number(), 0)
+}
+
+#[test]
+fn bits_of_kinds() -> Result<(), Fail> {
+    let Some(mask) = corner(
+        &mut [Mask { set: false }; BAY],
+        &mut [Mask { set: true }; 128],
+    ) else {
+        return Err(Fail::new("no mask"));
+    };
+    check_eq(mask.number(), 1)?;
     let Some(valve) = corner(&mut [Valve::new(0); BAY], &mut [Valve::new(5); 128]) else {
         return Err(Fail::new("no valve"));
     };
-    check_eq(valve.number(), 9)
+    check_eq(valve.number(), 9)?;
+    let zero = Pair {
+        first: Ink::new(0),
+        second: Valve::new(0),
+    };
+    let Some(pair) = corner(&mut [zero; BAY], &mut [zero; 128]) else {
+        return Err(Fail::new("no pair"));
+    };
+    check_eq(pair.first.number(), 3)?;
+    check_eq(pair.second.number(), 9)
 }
 
 /// Why a blank body's tile is not printed into so many cells.

@@ -1,6 +1,6 @@
 -- Rows and columns that are lists, taken along an address.
-use mathlib.Core.Path.{_≡_, refl, sym, ap, ap₂, _∙_}
-use mathlib.Core.Bool.{Bool, true, false, cond}
+use mathlib.Core.Path.{_≡_, refl, sym, ap, _∙_}
+use mathlib.Core.Bool.{Bool, cond}
 use mathlib.Core.List.{List, [], _∷_, _++_}
 use Prim.Native.Nat.{ℕ, _<_}
 use native.Mathlib.Omega.{arith}
@@ -13,7 +13,7 @@ use Rattle.weight.proofs.Totals.{total-all}
 use Rattle.picture.specs.Bodies.{Body, Sound, Edge}
 use Rattle.picture.specs.Pictures.{step, value}
 use Rattle.picture.specs.Quadrants.{Address}
-use Rattle.picture.specs.Steps.{leaves, back, at-state, stepped, spreads, carried, backed}
+use Rattle.picture.specs.Steps.{leaves, back, at-state, stepped, carried, backed}
 use Rattle.picture.specs.declared.quadrant.Quadrant.{Quadrant}
 use Rattle.picture.proofs.States.{total-below}
 use Rattle.picture.proofs.Values.{step-gathered, value-below, value-back}

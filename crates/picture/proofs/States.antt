@@ -1,11 +1,10 @@
 -- Sums over the states 0, …, n - 1.
 use mathlib.Core.Path.{_≡_, refl, sym, ap, ap₂, _∙_}
 use mathlib.Core.Bool.{Bool, true, false, cond}
-use mathlib.Core.List.{List, [], _∷_, _++_, map}
+use mathlib.Core.List.{[], _∷_, _++_}
 use mathlib.Core.Logic.{⊎-elim}
 use Prim.Native.Nat.{ℕ, zero, suc, _+_, _<_, _≤_}
-use native.Mathlib.Nat.{add-zero, zero-add, add-assoc, suc-add}
-use native.Mathlib.Numerals.{add-one}
+use native.Mathlib.Nat.{add-zero, zero-add, suc-add}
 use native.Mathlib.Omega.{arith}
 use lib.Dec.{eqb}
 use Rattle.std.specs.Iters.{counting}
@@ -14,7 +13,7 @@ use Rattle.std.proofs.shelf.Elements.{all-weaker}
 use Rattle.std.proofs.shelf.Tests.{cases-eq, eq-eqb, ne-eqb}
 use Rattle.weight.specs.Kinds.{Kind, Laws}
 use Rattle.weight.specs.Sums.{total}
-use Rattle.weight.proofs.Totals.{zero-plus, total-append, total-map, total-all}
+use Rattle.weight.proofs.Totals.{zero-plus, total-append, total-all}
 
 all-counting : (a n : ℕ) → All (λ i. i < a + n) (counting a n)
 all-counting a zero = tt

@@ -8,11 +8,10 @@ use Rattle.std.specs.Iters.{counting}
 use Rattle.weight.specs.Kinds.{Kind, Laws}
 use Rattle.weight.specs.Sums.{total}
 use Rattle.weight.proofs.Totals.{total-all, total-swap, times-total, total-times}
-use Rattle.picture.specs.Bodies.{Body, Sound, Edge}
+use Rattle.picture.specs.Bodies.{Body, Sound}
 use Rattle.picture.specs.Pictures.{goes, entry, step, along, value, picture}
 use Rattle.picture.specs.Quadrants.{Address, same}
-use Rattle.picture.specs.Statements.{Rows-by-arcs, Meet-in-the-middle}
-use Rattle.picture.specs.Steps.{reaches, leaves, gathered, spread, back, at-state}
+use Rattle.picture.specs.Steps.{reaches, gathered, spread, back, at-state}
 use Rattle.picture.specs.declared.quadrant.Quadrant.{Quadrant}
 use Rattle.picture.proofs.States.{total-below, times-cond, cond-times, pick}
 

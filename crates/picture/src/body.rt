@@ -1,11 +1,8 @@
-ghost use mathlib.Core.Path.{_≡_};
-ghost use lib.ListN.{length};
-ghost use Rattle.std.specs.Holes.{between};
 ghost use Rattle.std.specs.Options.{Cases};
 ghost use Rattle.std.specs.Orderings.{When};
 ghost use Rattle.std.specs.shelf.Lists.{All};
 ghost use Rattle.picture.specs.Bodies.{Within};
-ghost use Rattle.picture.specs.Stored.{Fits, Holds, Kept};
+ghost use Rattle.picture.specs.Stored.{Fits, Holds};
 use crate::quadrant::Quadrant;
 
 /// How many states a body may have.

@@ -1,7 +1,7 @@
 -- The rows along a band of cells: one row, and two halves.
-use mathlib.Core.Path.{_≡_, refl, sym, ap, ap₂, _∙_}
-use mathlib.Core.List.{List, [], _∷_, _++_, append-nil}
-use Prim.Native.Nat.{ℕ, suc, _+_, _-_, _*_, _/_, _^_, _<_, _≤_}
+use mathlib.Core.Path.{_≡_, sym, ap, ap₂, _∙_}
+use mathlib.Core.List.{List, _++_}
+use Prim.Native.Nat.{ℕ, suc, _+_, _-_, _*_, _/_, _^_}
 use native.Mathlib.Nat.{two-pow-succ, add-mul}
 use native.Mathlib.Omega.{arith}
 use borrow.Author.Needs.{needs}

@@ -1,6 +1,6 @@
 -- Powers of four, and parts of a square.
 use mathlib.Core.Path.{_≡_, refl, sym, ap, ap₂, _∙_}
-use mathlib.Core.List.{List, [], _∷_, _++_}
+use mathlib.Core.List.{List, [], _++_}
 use Prim.Native.Nat.{ℕ, zero, suc, _+_, _-_, _*_, _%_, _^_, _<_, _≤_}
 use native.Mathlib.Nat.{two-pow-succ, pow-suc, one-le-pow, suc-mul, mul-assoc}
 use native.Mathlib.Omega.{arith}

@@ -1,6 +1,6 @@
 -- A row taken along a prefix, and the cells below it.
 use mathlib.Core.Path.{_≡_, refl, sym, ap, ap₂, fun-ext, _∙_}
-use mathlib.Core.List.{List, [], _∷_, _++_, map}
+use mathlib.Core.List.{List, [], _∷_, _++_, map, map-append, map-map}
 use Prim.Native.Nat.{ℕ, suc, _+_, _-_, _*_, _/_, _%_, _^_, _<_}
 use native.Mathlib.Omega.{arith}
 use lib.ListN.{length, take}
@@ -35,14 +35,6 @@ bands-all row c f y count size cells ey ec es l h =
     (ap₂ (λ m s. take (m * s) cells) (sym (ey ∙ ec)) (sym es) ∙ h ∙ ap (λ m. joined (λ y. joined (λ i. row (y * 2 ^ f + i)) (counting 0 (2 ^ f))) (counting 0 m)) (ey ∙ ec))
     ∙ joined-product row (2 ^ f) (2 ^ c)
     ∙ ap (λ m. joined row (counting 0 m)) (sym (pow-add 2 c f))
-
-map-append : {A B : Type 0} (f : A → B) (xs ys : List A) → map f (xs ++ ys) ≡ map f xs ++ map f ys
-map-append f [] ys = refl
-map-append f (x ∷ xs) ys = ap (λ zs. f x ∷ zs) (map-append f xs ys)
-
-map-map : {A B C : Type 0} (f : B → C) (g : A → B) (xs : List A) → map f (map g xs) ≡ map (λ x. f (g x)) xs
-map-map f g [] = refl
-map-map f g (x ∷ xs) = ap (λ zs. f (g x) ∷ zs) (map-map f g xs)
 
 map-joined : {A B C : Type 0} (f : B → C) (g : A → List B) (xs : List A) → map f (joined g xs) ≡ joined (λ x. map f (g x)) xs
 map-joined f g [] = refl

@@ -1,6 +1,6 @@
 -- Taking a remainder, or stopping at a cap, can be left out of a sum's and a product's parts.
 use mathlib.Core.Path.{_≡_, sym, ap, _∙_}
-use Prim.Native.Nat.{ℕ, zero, suc, _+_, _*_, _/_, _%_, _≤_, min}
+use Prim.Native.Nat.{ℕ, zero, suc, _+_, _*_, _/_, _%_, min}
 use native.Mathlib.Nat.{mod-add-div', add-mul, mul-right-comm, add-mul-mod-self-right, mul-zero, mul-suc, min-eq-left}
 use native.Mathlib.Omega.{arith}
 use mathlib.Core.Logic.{⊎-elim}

@@ -1,5 +1,5 @@
 -- A weight is known by its number: its invariant has one proof at most.
-use mathlib.Core.Path.{_≡_, ap₂}
+use mathlib.Core.Path.{_≡_}
 use mathlib.Core.HLevel.{isProp→PathP, ×₃-prop}
 use Prim.Native.Nat.{ℕ}
 use native.Mathlib.Bridge.{le-prop}

@@ -3,6 +3,7 @@ use borrow.Author.Needs.{needs}
 use native.Mathlib.Omega.{arith}
 use Prim.Native.Nat.{_<_}
 use lib.ListN.{length}
+use Rattle.std.specs.Holes.{between}
 use Rattle.std.proofs.shelf.Elements.{all-weaker}
 use Rattle.std.proofs.shelf.Edits.{length-between}
 use Rattle.std.proofs.shelf.Counted.{length-map-counting}
@@ -30,7 +31,8 @@ returns g c =
     let a = stored r mem in
     let sound = stored-sound r mem (c .pre .kept) (c .pre .room-a) in
     let long : length (c .copy-from-slice .last .self) ≡ 640 = ap length (c .copy-from-slice .ensures .after) ∙ c .pre .room-a in
-    let first = c .advance .ensures ∙ ap (λ n. stepped k (a .arcs) n (a .first) (c .args .quadrant)) (length-between (c .copy-from-slice .last .self) 0 (r .states) (omega arith) ∙ omega arith) in
+    let row : c .advance .last .next ≡ stepped k (a .arcs) (length (between 0 (r .states) (c .copy-from-slice .last .self))) (a .first) (c .args .quadrant) = c .advance .ensures in
+    let first = row ∙ ap (λ n. stepped k (a .arcs) n (a .first) (c .args .quadrant)) (length-between (c .copy-from-slice .last .self) 0 (r .states) (omega arith) ∙ omega arith) in
     let body = firsts-made (zoomed-body k (c .args .quadrant) a) r mem (c .copy-from-slice .last .self) _ (c .pre .kept) (c .pre .room-a) (c .copy-from-slice .ensures .after)
     (ap length first ∙ length-map-counting _ 0 (r .states)) refl first refl refl in
     record {

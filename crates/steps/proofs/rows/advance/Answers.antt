@@ -1,6 +1,4 @@
-use mathlib.Core.Path.{sym, ap, ap₂, _∙_}
 use mathlib.Core.Logic.{_≢_}
-use borrow.Author.Needs.{needs}
 use borrow.Author.Count.{below-more}
 use native.Mathlib.Omega.{arith}
 use Prim.Native.Nat.{_<_}

@@ -1,7 +1,7 @@
 use borrow.Author.Needs.{needs}
-use mathlib.Core.Path.{_≡_, refl, sym, ap, ap₂, subst, _∙_}
+use mathlib.Core.Path.{_≡_, ap, ap₂, _∙_}
 use Rattle.std.specs.Finite.{zipped}
-use Rattle.std.specs.Parts.{zip-first, zip-second, iter-rest}
+use Rattle.std.specs.Parts.{iter-rest}
 use Rattle.std.proofs.shelf.Pairs.{pairs-rest, pairs-rest-all}
 use Rattle.weight.proofs.Totals.{zero-plus, total-start, total-end}
 use Rattle.steps.proofs.rows.gather.Needs as need

@@ -1,7 +1,7 @@
 use borrow.Author.Needs.{needs, scaled-fits≤}
 use mathlib.Core.Path.{_≡_, sym, ap, ap₂, _∙_}
 use native.Mathlib.Omega.{arith}
-use Prim.Native.Nat.{_+_, _*_, _/_, _^_, _<_, _≤_}
+use Prim.Native.Nat.{_+_, _*_, _/_, _^_, _≤_}
 use lib.Arith.{digits-div}
 use lib.ListN.{length, take}
 use Rattle.std.specs.Iters.{counting}

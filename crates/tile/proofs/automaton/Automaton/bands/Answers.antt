@@ -1,10 +1,8 @@
 use borrow.Author.Needs.{needs, scaled-fits≤}
-use mathlib.Core.Path.{_≡_, sym, ap, ap₂, _∙_}
+use mathlib.Core.Path.{_≡_, ap₂, _∙_}
 use native.Mathlib.Omega.{arith}
-use Prim.Native.Nat.{_+_, _*_, _^_, _≤_}
-use lib.ListN.{length, take}
-use Rattle.std.specs.Iters.{counting}
-use Rattle.std.specs.Joined.{joined}
+use Prim.Native.Nat.{_+_, _*_, _≤_}
+use lib.ListN.{length}
 use Rattle.tile.specs.Automata.{body}
 use Rattle.tile.specs.Bands.{cells-in-row}
 use Rattle.tile.proofs.Joins.{length-slot}
