@@ -4,19 +4,19 @@ use Rattle.std.proofs.lemmas.List.{length-map}
 use Rattle.std.proofs.lemmas.Bool.{ltb-false}
 use Rattle.weight.specs.Kinds.{Kind, Laws}
 use Rattle.picture.specs.Bodies.{Body, Sound}
-use Rattle.picture.specs.BodyOperations.{sum_body, product-body, unturned, redirected-body, zoomed-body, pieced-body}
-use Rattle.picture.specs.Operations.{four, mirrored, turned, pieced-picture}
+use Rattle.picture.specs.BodyOperations.{sum_body, product_body, unturned, redirected_body, zoomed_body, pieced_body}
+use Rattle.picture.specs.Operations.{four, mirrored, turned, pieced_picture}
 use Rattle.picture.specs.OperationStatements.{Shows}
 use Rattle.picture.specs.Pictures.{Picture, picture}
 use Rattle.picture.specs.Quadrants.{Address}
 use Rattle.picture.specs.declared.quadrant.Quadrant.{Quadrant}
-use Rattle.picture.proofs.DigitPictures.{redirected-sound, turn-shows, mirror-shows}
-use Rattle.picture.proofs.LawsOfPictures.{each-quadrant}
-use Rattle.picture.proofs.PiecedPictures.{pieced-sound, pieced-shows}
-use Rattle.picture.proofs.ProductPictures.{product-sound, product-shows}
-use Rattle.picture.proofs.SumPictures.{sum-sound, sum-shows}
-use Rattle.picture.proofs.ZoomPictures.{zoom-sound, zoom-shows}
-use Rattle.compose.specs.Faults.{excess, over-limit, product-fault}
+use Rattle.picture.proofs.DigitPictures.{redirected_sound, turn_shows, mirror_shows}
+use Rattle.picture.proofs.LawsOfPictures.{each_quadrant}
+use Rattle.picture.proofs.PiecedPictures.{pieced_sound, pieced_shows}
+use Rattle.picture.proofs.ProductPictures.{product_sound, product_shows}
+use Rattle.picture.proofs.SumPictures.{sum_sound, sum_shows}
+use Rattle.picture.proofs.ZoomPictures.{zoom_sound, zoom_shows}
+use Rattle.compose.specs.Faults.{excess, over_limit, product_fault}
 use Rattle.compose.specs.declared.limits.Fault.{Fault}
 use Rattle.compose.specs.declared.limits.Fault.TheVariants.{NoExchange, ManyStates, ManyArcs}
 use Rattle.words.specs.Format.{Limited}
@@ -26,7 +26,7 @@ use Rattle.stack.specs.Drawing.{unless, drawing}
 use Rattle.stack.specs.declared.fault.StepFault.{StepFault}
 use Rattle.book.specs.Calls.{Places}
 use Rattle.book.specs.Meanings.{Book, meaning}
-use Rattle.book.specs.Statements.{All-limited}
+use Rattle.book.specs.Statements.{AllLimited}
 
 -- the book in which each place has the picture of its body
 abbrev pub pictures : {W : Type 0} → Kind W → Places W → Book W
@@ -43,65 +43,65 @@ module _ {W : Type 0} (k : Kind W) where
     gives : {b : Body W} → Draws f b → Means f (Ok b)
     stops : {s : StepFault} → Means f (Err s)
 
-  then-means : {f g : Picture W} {r : Result (Body W) StepFault} (c : Body W → Result (Body W) StepFault) → Means f r → ((b : Body W) → Draws f b → Means g (c b)) → Means g (then r c)
-  then-means c (gives {b} h) on = on b h
-  then-means c stops on = stops
+  then_means : {f g : Picture W} {r : Result (Body W) StepFault} (c : Body W → Result (Body W) StepFault) → Means f r → ((b : Body W) → Draws f b → Means g (c b)) → Means g (then r c)
+  then_means c (gives {b} h) on = on b h
+  then_means c stops on = stops
 
   within : {f : Picture W} (i : ℕ) (b : Body W) → Sound b → Shows k b f → (s t : Bool) → ltb 64 b.states ≡ s → ltb 512 (length b.arcs) ≡ t
       → Means f (unless (cond s (Some ManyStates) (cond t (Some ManyArcs) None)) i b)
   within i b sound is true t p q = stops
   within i b sound is false true p q = stops
-  within i b sound is false false p q = gives (record { limited = record { few-states = ltb-false _ _ p; few-arcs = ltb-false _ _ q; sound = sound }; shows = is })
+  within i b sound is false false p q = gives (record { limited = record { few_states = ltb-false _ _ p; few_arcs = ltb-false _ _ q; sound = sound }; shows = is })
 
   -- a body whose limits are looked at
-  limits-mean : {f : Picture W} (i : ℕ) (b : Body W) → Sound b → Shows k b f → Means f (unless (over-limit b) i b)
-  limits-mean i b sound is = within i b sound is _ _ refl refl
+  limits_mean : {f : Picture W} (i : ℕ) (b : Body W) → Sound b → Shows k b f → Means f (unless (over_limit b) i b)
+  limits_mean i b sound is = within i b sound is _ _ refl refl
 
-  exchange-means : {f : Picture W} (i : ℕ) (b : Body W) (t : Bool) → k.exchanges ≡ t → (k.exchanges ≡ true → Means f (unless (over-limit b) i b)) → Means f (unless (cond t (over-limit b) (Some NoExchange)) i b)
-  exchange-means i b true e h = h e
-  exchange-means i b false e h = stops
+  exchange_means : {f : Picture W} (i : ℕ) (b : Body W) (t : Bool) → k.exchanges ≡ t → (k.exchanges ≡ true → Means f (unless (over_limit b) i b)) → Means f (unless (cond t (over_limit b) (Some NoExchange)) i b)
+  exchange_means i b true e h = h e
+  exchange_means i b false e h = stops
 
-  redirected-limited : (g : Quadrant → Quadrant) (b : Body W) → Limited b → Limited (redirected-body g b)
-  redirected-limited g b h = record {
-    few-states = h.few-states;
-    few-arcs = subst (λ n. n ≤ 512) (sym (length-map b.arcs _)) h.few-arcs;
-    sound = redirected-sound g b h.sound;
+  redirected_limited : (g : Quadrant → Quadrant) (b : Body W) → Limited b → Limited (redirected_body g b)
+  redirected_limited g b h = record {
+    few_states = h.few_states;
+    few_arcs = subst (λ n. n ≤ 512) (sym (length-map b.arcs _)) h.few_arcs;
+    sound = redirected_sound g b h.sound;
   }
 
-  zoomed-limited : (d : Quadrant) (b : Body W) → Limited b → Limited (zoomed-body k d b)
-  zoomed-limited d b h = record { few-states = h.few-states; few-arcs = h.few-arcs; sound = zoom-sound k d b h.sound }
+  zoomed_limited : (d : Quadrant) (b : Body W) → Limited b → Limited (zoomed_body k d b)
+  zoomed_limited d b h = record { few_states = h.few_states; few_arcs = h.few_arcs; sound = zoom_sound k d b h.sound }
 
   -- equal parts piece to the same picture
-  pieces-same : (f g : Quadrant → Picture W) → ((e : Quadrant) (w : Address) → f e w ≡ g e w) → (w : Address) → pieced-picture k f w ≡ pieced-picture k g w
-  pieces-same f g h [] = refl
-  pieces-same f g h (d ∷ w) = h d w
+  pieces_same : (f g : Quadrant → Picture W) → ((e : Quadrant) (w : Address) → f e w ≡ g e w) → (w : Address) → pieced_picture k f w ≡ pieced_picture k g w
+  pieces_same f g h [] = refl
+  pieces_same f g h (d ∷ w) = h d w
 
-  module _ (laws : Laws k) (at : Places W) (limited : All-limited at) where
+  module _ (laws : Laws k) (at : Places W) (limited : AllLimited at) where
     pub means : (f : Expression) → Means (meaning k (pictures k at) f) (value (drawing k) at f)
     means (Named p) = gives (record { limited = limited p; shows = λ w. refl })
     means (Turned f) =
-        then-means _ (means f) (λ b h. gives (record { limited = redirected-limited unturned b h.limited; shows = λ w. turn-shows laws b h.limited.sound w ∙ h.shows (map turned w) }))
+        then_means _ (means f) (λ b h. gives (record { limited = redirected_limited unturned b h.limited; shows = λ w. turn_shows laws b h.limited.sound w ∙ h.shows (map turned w) }))
     means (Mirrored f) =
-        then-means _ (means f) (λ b h. gives (record { limited = redirected-limited mirrored b h.limited; shows = λ w. mirror-shows laws b h.limited.sound w ∙ h.shows (map mirrored w) }))
+        then_means _ (means f) (λ b h. gives (record { limited = redirected_limited mirrored b h.limited; shows = λ w. mirror_shows laws b h.limited.sound w ∙ h.shows (map mirrored w) }))
     means (Zoomed d f) =
-        then-means _ (means f) (λ b h. gives (record { limited = zoomed-limited d b h.limited; shows = λ w. zoom-shows laws d b h.limited.sound w ∙ h.shows (d ∷ w) }))
+        then_means _ (means f) (λ b h. gives (record { limited = zoomed_limited d b h.limited; shows = λ w. zoom_shows laws d b h.limited.sound w ∙ h.shows (d ∷ w) }))
     means (Sum i f g) =
-        then-means _ (means f) (λ a x.
-        then-means _ (means g) (λ b y.
-        limits-mean i (sum_body a b) (sum-sound a b x.limited.sound y.limited.sound)
-        (λ w. sum-shows laws a b x.limited.sound y.limited.sound w ∙ ap₂ k.plus (x.shows w) (y.shows w))))
+        then_means _ (means f) (λ a x.
+        then_means _ (means g) (λ b y.
+        limits_mean i (sum_body a b) (sum_sound a b x.limited.sound y.limited.sound)
+        (λ w. sum_shows laws a b x.limited.sound y.limited.sound w ∙ ap₂ k.plus (x.shows w) (y.shows w))))
     means (Product i f g) =
-        then-means _ (means f) (λ a x.
-        then-means _ (means g) (λ b y.
-        exchange-means i (product-body k a b) k.exchanges refl (λ e.
-        limits-mean i (product-body k a b) (product-sound k a b x.limited.sound y.limited.sound)
-        (λ w. product-shows laws e a b x.limited.sound y.limited.sound w ∙ ap₂ k.times (x.shows w) (y.shows w)))))
+        then_means _ (means f) (λ a x.
+        then_means _ (means g) (λ b y.
+        exchange_means i (product_body k a b) k.exchanges refl (λ e.
+        limits_mean i (product_body k a b) (product_sound k a b x.limited.sound y.limited.sound)
+        (λ w. product_shows laws e a b x.limited.sound y.limited.sound w ∙ ap₂ k.times (x.shows w) (y.shows w)))))
     means (Pieced i x y z u) =
-        then-means _ (means x) (λ a p.
-        then-means _ (means y) (λ b q.
-        then-means _ (means z) (λ c r.
-        then-means _ (means u) (λ d s.
+        then_means _ (means x) (λ a p.
+        then_means _ (means y) (λ b q.
+        then_means _ (means z) (λ c r.
+        then_means _ (means u) (λ d s.
         let sounds : (e : Quadrant) → Sound (four a b c d e) =
-        each-quadrant (λ e. Sound (four a b c d e)) p.limited.sound q.limited.sound r.limited.sound s.limited.sound in
-        limits-mean i (pieced-body k (four a b c d)) (pieced-sound k (four a b c d) sounds)
-        (λ w. pieced-shows laws (four a b c d) sounds w ∙ pieces-same _ _ (each-quadrant (λ e. (v : Address) → picture k (four a b c d e) v ≡ four (meaning k (pictures k at) x) (meaning k (pictures k at) y) (meaning k (pictures k at) z) (meaning k (pictures k at) u) e v) p.shows q.shows r.shows s.shows) w)))))
+        each_quadrant (λ e. Sound (four a b c d e)) p.limited.sound q.limited.sound r.limited.sound s.limited.sound in
+        limits_mean i (pieced_body k (four a b c d)) (pieced_sound k (four a b c d) sounds)
+        (λ w. pieced_shows laws (four a b c d) sounds w ∙ pieces_same _ _ (each_quadrant (λ e. (v : Address) → picture k (four a b c d e) v ≡ four (meaning k (pictures k at) x) (meaning k (pictures k at) y) (meaning k (pictures k at) z) (meaning k (pictures k at) u) e v) p.shows q.shows r.shows s.shows) w)))))

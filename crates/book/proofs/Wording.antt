@@ -10,12 +10,12 @@ use Rattle.recipe.specs.Evaluations.{put}
 use Rattle.recipe.specs.Places.{number, place}
 use Rattle.book.specs.declared.refusal.Refusal.TheVariants.{ShortMemory, NoPlace}
 use Rattle.book.specs.Calls.{Enter, Write, Output, Nothing, Words, Outcome, Places, answers, refused, Enters, not_entered, entered, Writes, too_wide, too_short, written, Rules}
-use Rattle.book.specs.Statements.{All-limited, Entered-back, Written-back}
-use Rattle.book.proofs.Singling.{not-both, past_memory}
+use Rattle.book.specs.Statements.{AllLimited, EnteredBack, WrittenBack}
+use Rattle.book.proofs.Singling.{not_both, past_memory}
 
 -- what was put at a place stands there
-pub put-there : {V : Type 0} (p : Place) (v : V) (at : Place → V) → put p v at p ≡ v
-put-there p v at = ap (λ t. cond t v (at p)) (eq-eqb (number p) (number p) refl)
+pub put_there : {V : Type 0} (p : Place) (v : V) (at : Place → V) → put p v at p ≡ v
+put_there p v at = ap (λ t. cond t v (at p)) (eq-eqb (number p) (number p) refl)
 
 module _ {W : Type 0} (k : Kind W) (v : Writing W) where
   -- the place of a call that is answered
@@ -25,7 +25,7 @@ module _ {W : Type 0} (k : Kind W) (v : Writing W) where
     holds : T p
 
   found_in : (T : Place → Type 0) (at : Places W) (o : Outcome W) (i n : ℕ) → o.answer ≡ Ok i → (q : Option Place) → place n ≡ q → MatchOption q (o ≡ refused at NoPlace) T → Found T n
-  found_in T at o i n a None e x = not-both o.answer a (λ j. (x j).answer)
+  found_in T at o i n a None e x = not_both o.answer a (λ j. (x j).answer)
   found_in T at o i n a (Some p) e x = record { p = p; is = e; holds = x }
 
   found : (T : Place → Type 0) (at : Places W) (o : Outcome W) (i n memory : ℕ) → o.answer ≡ Ok i
@@ -37,44 +37,44 @@ module _ {W : Type 0} (k : Kind W) (v : Writing W) where
     spells : SpellsBody v b given
     after : o.after ≡ put p b at
 
-  was-put : (at : Places W) (p : Place) (given : List ℕ) (o : Outcome W) (i : ℕ) → o.answer ≡ Ok i → Enters k v at p given o → Put at p given o
-  was-put at p given o i a (not_entered h) = not-both o.answer a refl
-  was-put at p given o i a (entered {b} h) = record { b = b; spells = h; after = refl }
+  was_put : (at : Places W) (p : Place) (given : List ℕ) (o : Outcome W) (i : ℕ) → o.answer ≡ Ok i → Enters k v at p given o → Put at p given o
+  was_put at p given o i a (not_entered h) = not_both o.answer a refl
+  was_put at p given o i a (entered {b} h) = record { b = b; spells = h; after = refl }
 
-  was-written : (at : Places W) (p : Place) (room : ℕ) (o : Outcome W) (i : ℕ) → o.answer ≡ Ok i → Writes k v at p room o → (v.width < 9) × (o.output ≡ Words (words_of v (at p)))
-  was-written at p room o i a (too_wide h) = not-both o.answer a refl
-  was-written at p room o i a (too_short h l) = not-both o.answer a refl
-  was-written at p room o i a (written h l) = (h, refl)
+  was_written : (at : Places W) (p : Place) (room : ℕ) (o : Outcome W) (i : ℕ) → o.answer ≡ Ok i → Writes k v at p room o → (v.width < 9) × (o.output ≡ Words (words_of v (at p)))
+  was_written at p room o i a (too_wide h) = not_both o.answer a refl
+  was_written at p room o i a (too_short h l) = not_both o.answer a refl
+  was_written at p room o i a (written h l) = (h, refl)
 
-  same-words : (xs ys : List ℕ) (out : Output W) → out ≡ Words xs → out ≡ Words ys → xs ≡ ys
-  same-words xs ys out p q = cc
+  same_words : (xs ys : List ℕ) (out : Output W) → out ≡ Words xs → out ≡ Words ys → xs ≡ ys
+  same_words xs ys out p q = cc
 
   same_place : (p q : Place) (found : Option Place) → found ≡ Some p → found ≡ Some q → q ≡ p
   same_place p q found a b = cc
 
   -- a call with enough memory, at a place
-  at-the : (T : Place → Type 0) (at : Places W) (o : Outcome W) (memory n : ℕ) (p : Place) → 10240 ≤ memory → place n ≡ Some p → T p
+  at_the : (T : Place → Type 0) (at : Places W) (o : Outcome W) (memory n : ℕ) (p : Place) → 10240 ≤ memory → place n ≡ Some p → T p
       → cond (ltb memory 10240) (o ≡ refused at ShortMemory) (MatchOption (place n) (o ≡ refused at NoPlace) T)
-  at-the T at o memory n p enough is h =
+  at_the T at o memory n p enough is h =
       subst (λ t. cond t (o ≡ refused at ShortMemory) (MatchOption (place n) (o ≡ refused at NoPlace) T)) (sym (le-ltb memory 10240 enough))
       (subst (λ q. MatchOption q (o ≡ refused at NoPlace) T) (sym is) h)
 
-  pub entered-back : Entered-back k v
-  entered-back at memory n i given x e a p now later room is same enough fits =
+  pub entered_back : EnteredBack k v
+  entered_back at memory n i given x e a p now later room is same enough fits =
       let f = found (λ p. Enters k v at p given x) at x i n memory a e in
-      let u = was-put at f.p given x i a f.holds in
+      let u = was_put at f.p given x i a f.holds in
       let here : f.p ≡ p = same_place p f.p (place n) is f.is in
       let spelled : words_of v (now p) ≡ given =
-      ap (words_of v) (same ∙ (λ j. u.after j p) ∙ (λ j. put (here j) u.b at p) ∙ put-there p u.b at) ∙ u.spells.spelled in
+      ap (words_of v) (same ∙ (λ j. u.after j p) ∙ (λ j. put (here j) u.b at p) ∙ put_there p u.b at) ∙ u.spells.spelled in
       let o = answers now (length given) (Words given) in
-      at-the (λ q. Writes k v now q room o) now o later n p enough is
+      at_the (λ q. Writes k v now q room o) now o later n p enough is
       (subst (λ (ws : List ℕ). Writes k v now p room (answers now (length ws) (Words ws))) spelled (written u.spells.narrow (subst (λ (ws : List ℕ). length ws ≤ room) (sym spelled) fits)))
 
-  pub written_back : Written-back k v
+  pub written_back : WrittenBack k v
   written_back at limited memory n room i given x w a out p q now later m is there enough =
       let g = found (λ r. Writes k v at r room x) at x i n memory a w in
-      let z = was-written at g.p room x i a g.holds in
+      let z = was_written at g.p room x i a g.holds in
       let here : g.p ≡ p = same_place p g.p (place n) is g.is in
-      let spelled : words_of v (at p) ≡ given = ap (λ (r : Place). words_of v (at r)) (sym here) ∙ same-words (words_of v (at g.p)) given x.output z.1 out in
-      at-the (λ r. Enters k v now r given (answers (put q (at p) now) 0 Nothing)) now _ later m q enough there
+      let spelled : words_of v (at p) ≡ given = ap (λ (r : Place). words_of v (at r)) (sym here) ∙ same_words (words_of v (at g.p)) given x.output z.1 out in
+      at_the (λ r. Enters k v now r given (answers (put q (at p) now) 0 Nothing)) now _ later m q enough there
       (entered (record { narrow = z.0; limited = limited p; spelled = spelled }))

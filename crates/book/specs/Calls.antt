@@ -11,9 +11,9 @@ use Rattle.words.specs.Faults.{Refused}
 use Rattle.words.specs.Format.{words_of, SpellsBody}
 use Rattle.tile.specs.declared.printing.Fault.TheVariants.{NoTile, ShortOutput}
 use Rattle.recipe.specs.declared.place.Place.{Place}
-use Rattle.recipe.specs.Evaluations.{put, Ran, run-lines}
+use Rattle.recipe.specs.Evaluations.{put, Ran, run_lines}
 use Rattle.recipe.specs.Expressions.{lines}
-use Rattle.recipe.specs.Limits.{max-bytes}
+use Rattle.recipe.specs.Limits.{max_bytes}
 use Rattle.recipe.specs.Outcomes as script
 use Rattle.recipe.specs.Places.{place}
 use Rattle.recipe.specs.Trees as trees
@@ -57,13 +57,13 @@ abbrev pub refused : {W : Type 0} → Places W → Refusal → Outcome W
 refused at r = record { answer = Err r; output = Nothing; after = at }
 
 -- the number of lines, or the line that was refused
-abbrev pub run-answer : ℕ → Option StepFault → Result ℕ Refusal
-run-answer n None = Ok n
-run-answer n (Some f) = Err (NotRun (Stopped (record { line = n; step = f })))
+abbrev pub run_answer : ℕ → Option StepFault → Result ℕ Refusal
+run_answer n None = Ok n
+run_answer n (Some f) = Err (NotRun (Stopped (record { line = n; step = f })))
 
 -- the outcome of a script of which some lines were done
 abbrev pub ran : {W : Type 0} → Ran (Body W) StepFault → Outcome W
-ran r = record { answer = run-answer r.done r.stop; output = Nothing; after = r.after }
+ran r = record { answer = run_answer r.done r.stop; output = Nothing; after = r.after }
 
 module _ {W : Type 0} (k : Kind W) (v : Writing W) (at : Places W) where
   -- the words are refused with their fault, or their body stands at the place
@@ -74,7 +74,7 @@ module _ {W : Type 0} (k : Kind W) (v : Writing W) (at : Places W) where
   -- the script is refused with its fault, or its lines are carried out up to one that is refused
   pub data Runs (given : List ℕ) : Outcome W → Type 0 where
     unread : {f : recipe.Fault} → script.Refused given f → Runs given (refused at (NotRun (Unread f)))
-    performed : (t : trees.Tree trees.script) → length given ≤ max-bytes → script.Spells t given → Runs given (ran (run-lines (drawing k) (lines t) at))
+    performed : (t : trees.Tree trees.script) → length given ≤ max_bytes → script.Spells t given → Runs given (ran (run_lines (drawing k) (lines t) at))
 
   -- the kind is too wide, the room too short, or the words of the place's body are written
   pub data Writes (p : Place) (room : ℕ) : Outcome W → Type 0 where
@@ -90,8 +90,8 @@ module _ {W : Type 0} (k : Kind W) (v : Writing W) (at : Places W) where
         → Prints p depth digits prefix room (answers at (4 ^ (depth - digits)) (Cells (map (picture k (at p)) (tile depth digits prefix))))
 
   -- refused if the memory has too few weights, else as T says
-  abbrev pub with-memory : ℕ → Outcome W → Type 0 → Type 0
-  with-memory memory o T = cond (nat_lt memory 10240) (o ≡ refused at ShortMemory) T
+  abbrev pub with_memory : ℕ → Outcome W → Type 0 → Type 0
+  with_memory memory o T = cond (nat_lt memory 10240) (o ≡ refused at ShortMemory) T
 
   -- refused if no place has the number, else as T says of the place that has it
   abbrev pub at_place : ℕ → Outcome W → (Place → Type 0) → Type 0
@@ -99,8 +99,8 @@ module _ {W : Type 0} (k : Kind W) (v : Writing W) (at : Places W) where
 
   -- the outcome that the rules name for a call, with a memory of so many weights
   abbrev pub Rules : (memory : ℕ) → Call → Outcome W → Type 0
-  Rules memory (Enter n given) o = with-memory memory o (at_place n o (λ p. Enters p given o))
-  Rules memory (Run given) o = with-memory memory o (Runs given o)
-  Rules memory (Clear n) o = with-memory memory o (at_place n o (λ p. o ≡ answers (put p blank at) 0 Nothing))
-  Rules memory (Write n room) o = with-memory memory o (at_place n o (λ p. Writes p room o))
-  Rules memory (Print n depth digits prefix room) o = with-memory memory o (at_place n o (λ p. Prints p depth digits prefix room o))
+  Rules memory (Enter n given) o = with_memory memory o (at_place n o (λ p. Enters p given o))
+  Rules memory (Run given) o = with_memory memory o (Runs given o)
+  Rules memory (Clear n) o = with_memory memory o (at_place n o (λ p. o ≡ answers (put p blank at) 0 Nothing))
+  Rules memory (Write n room) o = with_memory memory o (at_place n o (λ p. Writes p room o))
+  Rules memory (Print n depth digits prefix room) o = with_memory memory o (at_place n o (λ p. Prints p depth digits prefix room o))

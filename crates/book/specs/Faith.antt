@@ -34,8 +34,8 @@ fresh p = blank
 
 module _ {W : Type 0} (k : Kind W) (v : Writing W) where
   -- at first every picture is zero everywhere
-  abbrev pub first-book : Book W
-  first-book p w = k.zero
+  abbrev pub first_book : Book W
+  first_book p w = k.zero
 
   -- Told a call and its answer, the book is `next` then. An accepted enter makes the place's picture that of the body in the
   -- words, an accepted clear makes it zero, an accepted run changes it line by line; a refusal that carries a line counts
@@ -74,5 +74,5 @@ module _ {W : Type 0} (k : Kind W) (v : Writing W) where
   ByRules memory at (e ∷ es) now = (after : Places W) × Rules k v at memory e.call (leaving e after) × ByRules memory after es now
 
   -- on a fresh rack, with a memory of any size, every list of calls that goes by the rules is faithful to the book
-  abbrev pub Lists-faithful : Type 0
-  Lists-faithful = (memory : ℕ) (es : List (Event W)) (now : Places W) → ByRules memory fresh es now → Faithful first-book es
+  abbrev pub ListsFaithful : Type 0
+  ListsFaithful = (memory : ℕ) (es : List (Event W)) (now : Places W) → ByRules memory fresh es now → Faithful first_book es

@@ -1,6 +1,6 @@
 -- The number of each refusal, and what it carries.
 use Rattle.std.specs.Prelude.{ℕ, Some, None, Option}
-use Rattle.words.specs.Faults.{number-and-index, write-number}
+use Rattle.words.specs.Faults.{number_and_index, write_number}
 use Rattle.recipe.specs.Faults as recipe
 use Rattle.compose.specs.Faults as compose
 use Rattle.tile.specs.Faults as tile
@@ -19,14 +19,14 @@ abbrev pub bare : ℕ → Code
 bare n = record { number = n; line = None; index = None }
 
 -- a number that carries an index, or not
-abbrev pub with-index : ℕ × Option ℕ → Code
-with-index p = record { number = p.0; line = None; index = p.1 }
+abbrev pub with_index : ℕ × Option ℕ → Code
+with_index p = record { number = p.0; line = None; index = p.1 }
 
 abbrev pub coded : Refusal → Code
 coded ShortMemory = bare 1
 coded NoPlace = bare 2
-coded (NotEntered f) = with-index (number-and-index f)
-coded (NotRun (Unread f)) = with-index (recipe.coded f)
+coded (NotEntered f) = with_index (number_and_index f)
+coded (NotRun (Unread f)) = with_index (recipe.coded f)
 coded (NotRun (Stopped f)) = record { number = compose.number f.step.fault; line = Some f.line; index = Some f.step.mark }
-coded (NotWritten f) = bare (write-number f)
+coded (NotWritten f) = bare (write_number f)
 coded (NotPrinted f) = bare (tile.number f)

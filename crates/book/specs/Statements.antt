@@ -12,21 +12,21 @@ use Rattle.book.specs.Calls.{Call, Enter, Run, Write, Print, Nothing, Words, Pla
 use Rattle.book.specs.Uses.{Compared}
 
 -- every body may stand at a place
-abbrev pub All-limited : {W : Type 0} → Places W → Type 0
-All-limited at = (p : Place) → Limited (at p)
+abbrev pub AllLimited : {W : Type 0} → Places W → Type 0
+AllLimited at = (p : Place) → Limited (at p)
 
 -- both outcomes have the same answer and the same output
-abbrev pub Same-shown : {W : Type 0} → Outcome W → Outcome W → Type 0
-Same-shown x y = (x.answer ≡ y.answer) × (x.output ≡ y.output)
+abbrev pub SameShown : {W : Type 0} → Outcome W → Outcome W → Type 0
+SameShown x y = (x.answer ≡ y.answer) × (x.output ≡ y.output)
 
 module _ {W : Type 0} (k : Kind W) (v : Writing W) where
   -- the rules name one outcome at most
-  abbrev pub One-outcome : Type 0
-  One-outcome = (at : Places W) (memory : ℕ) (c : Call) (x y : Outcome W) → Rules k v at memory c x → Rules k v at memory c y → x ≡ y
+  abbrev pub OneOutcome : Type 0
+  OneOutcome = (at : Places W) (memory : ℕ) (c : Call) (x y : Outcome W) → Rules k v at memory c x → Rules k v at memory c y → x ≡ y
 
   -- what an accepted run answers is the number of its lines
-  abbrev pub Answers-lines : Type 0
-  Answers-lines = (at : Places W) (memory i : ℕ) (t : trees.Tree trees.script) (x : Outcome W) → Rules k v at memory (Run (trees.text t)) x → x.answer ≡ Ok i → i ≡ length (lines t)
+  abbrev pub AnswersLines : Type 0
+  AnswersLines = (at : Places W) (memory i : ℕ) (t : trees.Tree trees.script) (x : Outcome W) → Rules k v at memory (Run (trees.text t)) x → x.answer ≡ Ok i → i ≡ length (lines t)
 
   -- As long as the place has the body that these words made, a write of it gives the same words, if there is room.
   abbrev pub WritesBack : (after : Places W) (n : ℕ) (given : List ℕ) → Type 0
@@ -35,8 +35,8 @@ module _ {W : Type 0} (k : Kind W) (v : Writing W) where
       → Rules k v now memory (Write n room) (answers now (length given) (Words given))
 
   -- words that were entered are written back
-  abbrev pub Entered-back : Type 0
-  Entered-back =
+  abbrev pub EnteredBack : Type 0
+  EnteredBack =
       (at : Places W) (memory n i : ℕ) (given : List ℕ) (x : Outcome W) → Rules k v at memory (Enter n given) x → x.answer ≡ Ok i → WritesBack x.after n given
 
   -- at any place of any rack, these words enter as the body of place n
@@ -46,9 +46,9 @@ module _ {W : Type 0} (k : Kind W) (v : Writing W) where
       → Rules k v now memory (Enter m given) (answers (put q (at p) now) 0 Nothing)
 
   -- words that are written enter as the same body
-  abbrev pub Written-back : Type 0
-  Written-back =
-      (at : Places W) → All-limited at → (memory n room i : ℕ) (given : List ℕ) (x : Outcome W)
+  abbrev pub WrittenBack : Type 0
+  WrittenBack =
+      (at : Places W) → AllLimited at → (memory n room i : ℕ) (given : List ℕ) (x : Outcome W)
       → Rules k v at memory (Write n room) x → x.answer ≡ Ok i → x.output ≡ Words given → EntersAs at n given
 
   -- From the bodies `at` this script leads to the bodies `after`. Run another that differs from it by uses of the laws: if it is
@@ -60,10 +60,10 @@ module _ {W : Type 0} (k : Kind W) (v : Writing W) where
       → (x y : Outcome W)
       → Rules k v after memory (Print n depth digits prefix room) x
       → Rules k v other.after memory (Print n depth digits prefix room) y
-      → Same-shown x y
+      → SameShown x y
 
   -- accepted scripts that differ by uses of the laws print alike
-  abbrev pub Law-equal : Type 0
-  Law-equal =
-      (at : Places W) → All-limited at → (memory i : ℕ) (t : trees.Tree trees.script) (x : Outcome W)
+  abbrev pub LawEqual : Type 0
+  LawEqual =
+      (at : Places W) → AllLimited at → (memory i : ℕ) (t : trees.Tree trees.script) (x : Outcome W)
       → Rules k v at memory (Run (trees.text t)) x → x.answer ≡ Ok i → PrintsAlike at x.after memory t

@@ -2,7 +2,7 @@
 use Rattle.std.proofs.Common.{◌≡◌, ℕ, ◌≤◌, Bool, true, false, cond, ltb, Some, None, Option, refl, arith}
 use Rattle.std.proofs.lemmas.Bool.{ltb-false}
 use Rattle.weight.specs.Kinds.{Kind}
-use Rattle.compose.specs.Faults.{excess, product-excess}
+use Rattle.compose.specs.Faults.{excess, product_excess}
 use Rattle.compose.specs.declared.limits.Fault.{Fault}
 use Rattle.compose.specs.declared.limits.Fault.TheVariants.{NoExchange, ManyStates, ManyArcs}
 
@@ -15,16 +15,16 @@ both_false false true e = absurd (never ManyArcs e)
 both_false false false e = (refl, refl)
 
 -- counts that pass no limit are within both
-pub within-limits : (n m : ℕ) → excess n m ≡ None → (n ≤ 64) × (m ≤ 512)
-within-limits n m e = let both = both_false (ltb 64 n) (ltb 512 m) e in (ltb-false 64 n both.0, ltb-false 512 m both.1)
+pub within_limits : (n m : ℕ) → excess n m ≡ None → (n ≤ 64) × (m ≤ 512)
+within_limits n m e = let both = both_false (ltb 64 n) (ltb 512 m) e in (ltb-false 64 n both.0, ltb-false 512 m both.1)
 
 accepted : (t : Bool) (fault : Option Fault) → cond t fault (Some NoExchange) ≡ None → (t ≡ true) × (fault ≡ None)
 accepted true fault e = (refl, e)
 accepted false fault e = absurd (never NoExchange e)
 
 -- a product is accepted on a kind that exchanges, if its counts are within the limits
-pub product-within : {W : Type 0} (k : Kind W) (n m : ℕ) → product-excess k n m ≡ None → (k.exchanges ≡ true) × (n ≤ 64) × (m ≤ 512)
-product-within k n m e =
+pub product_within : {W : Type 0} (k : Kind W) (n m : ℕ) → product_excess k n m ≡ None → (k.exchanges ≡ true) × (n ≤ 64) × (m ≤ 512)
+product_within k n m e =
     let both = accepted k.exchanges (excess n m) e in
-    let fits = within-limits n m both.1 in
+    let fits = within_limits n m both.1 in
     (both.0, fits.0, fits.1)

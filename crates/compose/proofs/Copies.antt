@@ -11,12 +11,12 @@ pub parts_are : {X : Type 0} (s m : ℕ) (out xs ys : List X) → length out ≡
 parts_are s m out xs ys l lx ly = same_lists _ _ (search (rules, places)) (λ i d b. grind (arith, places))
 
 -- how long the second part is when the first is written
-pub second-long : {X : Type 0} (s m : ℕ) (out xs : List X) → length out ≡ s + m → length xs ≡ s → length (between s (s + m) (put_mid 0 (s - 0) out xs)) ≡ m
-second-long s m out xs l lx =
+pub second_long : {X : Type 0} (s m : ℕ) (out xs : List X) → length out ≡ s + m → length xs ≡ s → length (between s (s + m) (put_mid 0 (s - 0) out xs)) ≡ m
+second_long s m out xs l lx =
     let long : length (put_mid 0 (s - 0) out xs) ≡ s + m = search (rules, places) in
     length-between (put_mid 0 (s - 0) out xs) s (s + m) (omega arith) ∙ omega arith
 
 -- one element more of a list that is made in order from another
-pub mapped-more : {X Y : Type 0} (f : X → Y) (xs : List X) (out : List Y) (i : ℕ) (d : X) → i < length xs → i < length out → take i out ≡ map f (take i xs)
+pub mapped_more : {X Y : Type 0} (f : X → Y) (xs : List X) (out : List Y) (i : ℕ) (d : X) → i < length xs → i < length out → take i out ≡ map f (take i xs)
     → take (i + 1) (set out i (f (get_or xs i d))) ≡ map f (take (i + 1) xs)
-mapped-more f xs out i d hx ho e = take_more_set out i (f (get_or xs i d)) ho ∙ ap (λ zs. zs ++ (f (get_or xs i d) ∷ [])) e ∙ sym (map_more f xs i d hx)
+mapped_more f xs out i d hx ho e = take_more_set out i (f (get_or xs i d)) ho ∙ ap (λ zs. zs ++ (f (get_or xs i d) ∷ [])) e ∙ sym (map_more f xs i d hx)

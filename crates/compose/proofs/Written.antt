@@ -14,11 +14,11 @@ use Rattle.compose.specs.Outcomes.{Made}
 use Rattle.compose.specs.declared.limits.Fault.{Fault}
 
 -- a part below what was written
-pub between-below : {X : Type 0} (a n : ℕ) (xs ys : List X) (i j : ℕ) → j ≤ a → a ≤ length xs → between i j (put_mid a n xs ys) ≡ between i j xs
-between-below a n xs ys i j h l = search (rules, overwrites, between_is)
+pub between_below : {X : Type 0} (a n : ℕ) (xs ys : List X) (i j : ℕ) → j ≤ a → a ≤ length xs → between i j (put_mid a n xs ys) ≡ between i j xs
+between_below a n xs ys i j h l = search (rules, overwrites, between_is)
 
-pub length-putMid : {X : Type 0} (a n : ℕ) (xs ys : List X) → a + n ≤ length xs → length ys ≡ n → length (put_mid a n xs ys) ≡ length xs
-length-putMid a n xs ys h l = search (rules, places)
+pub length_put_mid : {X : Type 0} (a n : ℕ) (xs ys : List X) → a + n ≤ length xs → length ys ≡ n → length (put_mid a n xs ys) ≡ length xs
+length_put_mid a n xs ys h l = search (rules, places)
 
 -- the body that is stored once first, last and arc weights are written
 pub stored_is : {W : Type 0} (b : Body W) (r : Record) (out xs ys ws : List W) → length out ≡ 640 → r.states ≤ 64 → r.count ≤ 512
@@ -28,28 +28,28 @@ pub stored_is : {W : Type 0} (b : Body W) (r : Record) (out xs ys ws : List W) �
 stored_is b r out xs ys ws l hn hm lx ly lw es ef el ea =
     let one = put_mid 0 (r.states - 0) out xs in
     let two = put_mid 64 (64 + r.states - 64) one ys in
-    let one-long : length one ≡ 640 = length-putMid 0 (r.states - 0) out xs (omega arith) (omega arith) ∙ l in
-    let two-long : length two ≡ 640 = length-putMid 64 (64 + r.states - 64) one ys (omega arith) (omega arith) ∙ one-long in
+    let one-long : length one ≡ 640 = length_put_mid 0 (r.states - 0) out xs (omega arith) (omega arith) ∙ l in
+    let two-long : length two ≡ 640 = length_put_mid 64 (64 + r.states - 64) one ys (omega arith) (omega arith) ∙ one-long in
     let first : between 0 r.states (put_mid 128 (128 + r.count - 128) two ws) ≡ xs =
-    between-below 128 _ two ws 0 r.states (omega arith) (omega arith) ∙ between-below 64 _ one ys 0 r.states (omega arith) (omega arith)
+    between_below 128 _ two ws 0 r.states (omega arith) (omega arith) ∙ between_below 64 _ one ys 0 r.states (omega arith) (omega arith)
     ∙ between-put_mid 0 _ out xs r.states (omega arith) (omega arith) in
     let last : between 64 (64 + r.states) (put_mid 128 (128 + r.count - 128) two ws) ≡ ys =
-    between-below 128 _ two ws 64 (64 + r.states) (omega arith) (omega arith) ∙ between-put_mid 64 _ one ys (64 + r.states) (omega arith) (omega arith) in
+    between_below 128 _ two ws 64 (64 + r.states) (omega arith) (omega arith) ∙ between-put_mid 64 _ one ys (64 + r.states) (omega arith) (omega arith) in
     let weights : between 128 (128 + r.count) (put_mid 128 (128 + r.count - 128) two ws) ≡ ws = between-put_mid 128 _ two ws (128 + r.count) (omega arith) (omega arith) in
     let arcs : zip (between 0 r.count r.arcs) (between 128 (128 + r.count) (put_mid 128 (128 + r.count - 128) two ws)) ≡ b.arcs = ap (zip (between 0 r.count r.arcs)) weights ∙ ea in
     λ i. record { states = es i; first = (first ∙ ef) i; last = (last ∙ el) i; arcs = arcs i }
 
 -- a record whose arcs and weights are those of a sound body within the limits
-pub body-made : {W : Type 0} (fault : Option Fault) (b : Body W) (r : Record) (arcs : List Arc) (out xs ys ws : List W) → fault ≡ None → Sound b → length out ≡ 640
+pub body_made : {W : Type 0} (fault : Option Fault) (b : Body W) (r : Record) (arcs : List Arc) (out xs ys ws : List W) → fault ≡ None → Sound b → length out ≡ 640
     → r.states ≡ b.states → r.states ≤ 64 → r.count ≤ 512 → between 0 r.count r.arcs ≡ arcs → length arcs ≡ r.count → length ws ≡ r.count
     → xs ≡ b.first → ys ≡ b.last → zip arcs ws ≡ b.arcs
     → Made fault b (put_mid 128 (128 + r.count - 128) (put_mid 64 (64 + r.states - 64) (put_mid 0 (r.states - 0) out xs) ys) ws) r
-body-made {W} fault b r arcs out xs ys ws ok sound lo es hn hm front la lw ex ey ea = record {
+body_made {W} fault b r arcs out xs ys ws ok sound lo es hn hm front la lw ex ey ea = record {
   accepted = ok;
   body = stored_is b r out xs ys ws lo hn hm (ap length ex ∙ sound.firsts ∙ sym es) (ap length ey ∙ sound.lasts ∙ sym es) lw es ex ey (ap (λ zs. zip zs ws) front ∙ ea);
   kept = record {
-    few-states = hn;
-    few-arcs = hm;
+    few_states = hn;
+    few_arcs = hm;
     ends =
         subst (All (Within r.states)) (ap (map (λ (e : Edge W). e.0)) (sym ea) ∙ firsts-zip arcs ws (lw ∙ sym la) ∙ sym front)
         (All-map (Within r.states) (λ (e : Edge W). e.0) b.arcs (subst (λ n. All (λ (e : Edge W). Within n e.0) b.arcs) (sym es) sound.ends));
@@ -57,19 +57,19 @@ body-made {W} fault b r arcs out xs ys ws ok sound lo es hn hm front la lw ex ey
 }
 
 -- a part above what was written
-between-above : {X : Type 0} (a n : ℕ) (xs ys : List X) (i j : ℕ) → a + n ≤ i → a ≤ length xs → length ys ≡ n → between i j (put_mid a n xs ys) ≡ between i j xs
-between-above a n xs ys i j h l ly = ap (take (j - i)) (drop-put_mid a n xs ys i h l ly)
+between_above : {X : Type 0} (a n : ℕ) (xs ys : List X) (i j : ℕ) → a + n ≤ i → a ≤ length xs → length ys ≡ n → between i j (put_mid a n xs ys) ≡ between i j xs
+between_above a n xs ys i j h l ly = ap (take (j - i)) (drop-put_mid a n xs ys i h l ly)
 
 -- only the first weights of a body were written
-pub firsts-made : {W : Type 0} (b : Body W) (r : Record) (mem out xs : List W) → Kept r → length mem ≡ 640 → out ≡ mem → length xs ≡ r.states
+pub firsts_made : {W : Type 0} (b : Body W) (r : Record) (mem out xs : List W) → Kept r → length mem ≡ 640 → out ≡ mem → length xs ≡ r.states
     → r.states ≡ b.states → xs ≡ b.first → (stored r mem).last ≡ b.last → (stored r mem).arcs ≡ b.arcs
     → stored r (put_mid 0 (r.states - 0) out xs) ≡ b
-firsts-made b r mem out xs kept room e lx es ex el ea =
-    let few = kept.few-states in
+firsts_made b r mem out xs kept room e lx es ex el ea =
+    let few = kept.few_states in
     let long : length out ≡ 640 = ap length e ∙ room in
     let first : between 0 r.states (put_mid 0 (r.states - 0) out xs) ≡ xs = between-put_mid 0 _ out xs r.states (omega arith) (omega arith) in
     let last : between 64 (64 + r.states) (put_mid 0 (r.states - 0) out xs) ≡ (stored r mem).last =
-    between-above 0 _ out xs 64 (64 + r.states) (omega arith) (omega arith) (omega arith) ∙ ap (between 64 (64 + r.states)) e in
+    between_above 0 _ out xs 64 (64 + r.states) (omega arith) (omega arith) (omega arith) ∙ ap (between 64 (64 + r.states)) e in
     let weights : between 128 (128 + r.count) (put_mid 0 (r.states - 0) out xs) ≡ between 128 (128 + r.count) mem =
-    between-above 0 _ out xs 128 (128 + r.count) (omega arith) (omega arith) (omega arith) ∙ ap (between 128 (128 + r.count)) e in
+    between_above 0 _ out xs 128 (128 + r.count) (omega arith) (omega arith) (omega arith) ∙ ap (between 128 (128 + r.count)) e in
     λ i. record { states = es i; first = (first ∙ ex) i; last = (last ∙ el) i; arcs = (ap (zip (between 0 r.count r.arcs)) weights ∙ ea) i }

@@ -16,13 +16,13 @@ abbrev pub excess : ℕ → ℕ → Option Fault
 excess states arcs = cond (nat_lt 64 states) (Some ManyStates) (cond (nat_lt 512 arcs) (Some ManyArcs) None)
 
 -- the limit that a body passes
-abbrev pub over-limit : {W : Type 0} → Body W → Option Fault
-over-limit b = excess b.states (length b.arcs)
+abbrev pub over_limit : {W : Type 0} → Body W → Option Fault
+over_limit b = excess b.states (length b.arcs)
 
 -- a product is refused first on a kind that does not exchange, whatever the bodies are
-abbrev pub product-excess : {W : Type 0} → Kind W → ℕ → ℕ → Option Fault
-product-excess k states arcs = cond k.exchanges (excess states arcs) (Some NoExchange)
+abbrev pub product_excess : {W : Type 0} → Kind W → ℕ → ℕ → Option Fault
+product_excess k states arcs = cond k.exchanges (excess states arcs) (Some NoExchange)
 
 -- why a product with this body is refused
-abbrev pub product-fault : {W : Type 0} → Kind W → Body W → Option Fault
-product-fault k b = product-excess k b.states (length b.arcs)
+abbrev pub product_fault : {W : Type 0} → Kind W → Body W → Option Fault
+product_fault k b = product_excess k b.states (length b.arcs)

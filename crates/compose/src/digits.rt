@@ -1,6 +1,6 @@
 ghost use Rattle.std.specs.Prelude.{◌≡◌, map, length};
-ghost use Rattle.picture.specs.BodyOperations.{redirected, «redirected-body», «turned-body», «mirrored-body»};
-ghost use Rattle.picture.specs.Operations.{replaced, «turned-picture», «mirrored-picture»};
+ghost use Rattle.picture.specs.BodyOperations.{redirected, redirected_body, turned_body, mirrored_body};
+ghost use Rattle.picture.specs.Operations.{replaced, turned_picture, mirrored_picture};
 ghost use Rattle.picture.specs.OperationStatements.{Shows};
 ghost use Rattle.picture.specs.Pictures.{picture};
 ghost use Rattle.picture.specs.Stored.{stored, Kept};
@@ -56,7 +56,7 @@ fn displace<W: Weight>(a: &Record, weights: &[W], motion: Motion, out: &mut [W])
     requires kept { Kept a.now }
     requires room_a { length weights.now ≡ 640 }
     requires room { length out.old ≡ 640 }
-    ensures body { stored result out.new ≡ redirected-body (becoming motion) (stored a.now weights.now) }
+    ensures body { stored result out.new ≡ redirected_body (becoming motion) (stored a.now weights.now) }
     ensures kept { Kept result }
     ensures shows { Shows kind (stored result out.new) (replaced (replacement motion) (picture kind (stored a.now weights.now))) }
 {
@@ -78,9 +78,9 @@ pub fn turn<W: Weight>(a: &Record, weights: &[W], out: &mut [W]) -> Record
     requires kept { Kept a.now }
     requires room_a { length weights.now ≡ 640 }
     requires room { length out.old ≡ 640 }
-    ensures body { stored result out.new ≡ turned-body (stored a.now weights.now) }
+    ensures body { stored result out.new ≡ turned_body (stored a.now weights.now) }
     ensures kept { Kept result }
-    ensures shows { Shows kind (stored result out.new) (turned-picture (picture kind (stored a.now weights.now))) }
+    ensures shows { Shows kind (stored result out.new) (turned_picture (picture kind (stored a.now weights.now))) }
 {
     displace(a, weights, Motion::Turn, out)
 }
@@ -90,9 +90,9 @@ pub fn mirror<W: Weight>(a: &Record, weights: &[W], out: &mut [W]) -> Record
     requires kept { Kept a.now }
     requires room_a { length weights.now ≡ 640 }
     requires room { length out.old ≡ 640 }
-    ensures body { stored result out.new ≡ mirrored-body (stored a.now weights.now) }
+    ensures body { stored result out.new ≡ mirrored_body (stored a.now weights.now) }
     ensures kept { Kept result }
-    ensures shows { Shows kind (stored result out.new) (mirrored-picture (picture kind (stored a.now weights.now))) }
+    ensures shows { Shows kind (stored result out.new) (mirrored_picture (picture kind (stored a.now weights.now))) }
 {
     displace(a, weights, Motion::Mirror, out)
 }

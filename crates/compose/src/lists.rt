@@ -1,7 +1,7 @@
 ghost use Rattle.std.specs.Prelude.{◌≡◌, ◌+◌, ◌<◌, ◌++◌, map, length};
 ghost use Rattle.std.specs.List.{AllByRecursion as All};
 ghost use Rattle.picture.specs.Bodies.{Within};
-ghost use Rattle.picture.specs.BodyOperations.{raised-arc};
+ghost use Rattle.picture.specs.BodyOperations.{raised_arc};
 
 use picture::Arc;
 
@@ -19,8 +19,8 @@ pub fn join<T: Copy>(front: &[T], back: &[T], out: &mut [T])
 /// Arcs with both ends raised.
 pub fn raise(arcs: &[Arc], by: u8, out: &mut [Arc])
     requires long { length out.old ≡ length arcs.now }
-    requires small { All (λ a. Within 256 (raised-arc by a)) arcs.now }
-    ensures { out.new ≡ map (raised-arc by) arcs.now }
+    requires small { All (λ a. Within 256 (raised_arc by a)) arcs.now }
+    ensures { out.new ≡ map (raised_arc by) arcs.now }
 {
     for i in 0..arcs.len() {
         let arc = arcs[i];

@@ -1,10 +1,10 @@
 ghost use Rattle.std.specs.Prelude.{◌≡◌, length, IfOk};
-ghost use Rattle.picture.specs.BodyOperations.{«sum_body»};
-ghost use Rattle.picture.specs.Operations.{«sum-picture»};
+ghost use Rattle.picture.specs.BodyOperations.{sum_body};
+ghost use Rattle.picture.specs.Operations.{sum_picture};
 ghost use Rattle.picture.specs.OperationStatements.{Shows};
 ghost use Rattle.picture.specs.Pictures.{picture};
 ghost use Rattle.picture.specs.Stored.{stored, Kept};
-ghost use Rattle.compose.specs.Faults.{«over-limit»};
+ghost use Rattle.compose.specs.Faults.{over_limit};
 ghost use Rattle.compose.specs.Outcomes.{Outcome};
 
 use crate::layout::{LASTS, WEIGHTS};
@@ -26,8 +26,8 @@ pub fn add<W: Weight>(
     requires room_a { length front.now ≡ 640 }
     requires room_b { length back.now ≡ 640 }
     requires room { length out.old ≡ 640 }
-    ensures body { Outcome (over-limit (sum_body (stored a.now front.now) (stored b.now back.now))) (sum_body (stored a.now front.now) (stored b.now back.now)) out.old out.new result }
-    ensures shows { IfOk result (λ c. Shows kind (stored c out.new) (sum-picture kind (picture kind (stored a.now front.now)) (picture kind (stored b.now back.now)))) }
+    ensures body { Outcome (over_limit (sum_body (stored a.now front.now) (stored b.now back.now))) (sum_body (stored a.now front.now) (stored b.now back.now)) out.old out.new result }
+    ensures shows { IfOk result (λ c. Shows kind (stored c out.new) (sum_picture kind (picture kind (stored a.now front.now)) (picture kind (stored b.now back.now)))) }
 {
     let na = a.states as usize;
     let nb = b.states as usize;

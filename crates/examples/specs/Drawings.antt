@@ -1,10 +1,10 @@
 -- Two grey bodies, and the cells that a grey body shows.
 use Rattle.std.specs.Prelude.{ℕ, List, [], ◌∷◌, ◌++◌, map}
 use Rattle.std.specs.List.{flat_map}
-use Rattle.weight.specs.Grey.{grey, grey-kind}
+use Rattle.weight.specs.Grey.{grey, grey_kind}
 use Rattle.weight.specs.declared.grey.Grey.{Grey}
 use Rattle.picture.specs.Bodies.{Body, Edge}
-use Rattle.picture.specs.BodyOperations.{arc-from}
+use Rattle.picture.specs.BodyOperations.{arc_from}
 use Rattle.picture.specs.Cells.{tile}
 use Rattle.picture.specs.Pictures.{picture}
 use Rattle.picture.specs.declared.quadrant.Quadrant.{Quadrant}
@@ -12,7 +12,7 @@ use Rattle.picture.specs.declared.quadrant.Quadrant.TheVariants.{UpperLeft, Uppe
 
 -- an arc with its weight
 abbrev edge : ℕ → ℕ → Quadrant → ℕ → Edge Grey
-edge p q d w = (arc-from p q d, grey w)
+edge p q d w = (arc_from p q d, grey w)
 
 abbrev every : List Quadrant
 every = UpperLeft ∷ UpperRight ∷ LowerLeft ∷ LowerRight ∷ []
@@ -32,4 +32,4 @@ flat = record { states = 1; first = grey 7 ∷ []; last = grey 1 ∷ []; arcs = 
 
 -- the numbers of all cells at a depth, row by row
 abbrev pub cells : ℕ → Body Grey → List ℕ
-cells depth b = map (λ w. (picture grey-kind b w).level) (tile depth 0 0)
+cells depth b = map (λ w. (picture grey_kind b w).level) (tile depth 0 0)

@@ -8,31 +8,31 @@ use Rattle.std.proofs.lemmas.List.{drop_more}
 use Rattle.std.proofs.lemmas.Slice.Zip.{get_or-zip, length-zip}
 use Rattle.weight.specs.Kinds.{Kind, Laws}
 use Rattle.weight.specs.Sums.{total}
-use Rattle.weight.proofs.Totals.{zero-plus, total-map, total-more}
+use Rattle.weight.proofs.Totals.{zero_plus, total_map, total_more}
 use Rattle.picture.specs.Bodies.{Edge, Within}
 use Rattle.picture.specs.Quadrants.{digit, same}
 use Rattle.picture.specs.declared.body.Arc.{Arc}
 use Rattle.picture.specs.declared.quadrant.Quadrant.{Quadrant}
-use Rattle.picture.proofs.States.{total-below}
+use Rattle.picture.proofs.States.{total_below}
 use Rattle.index.specs.Indexes.{part, Indexed}
 use Rattle.index.specs.Keys.{none, key, end_of, placed}
 use Rattle.index.specs.Terms.{edge_at}
 use Rattle.index.specs.declared.index.End.{End}
 use Rattle.index.specs.declared.index.End.TheVariants.{From, To}
 use Rattle.index.specs.declared.index.Index.{Index}
-use Rattle.index.proofs.Parts.{key-tells, key_below}
+use Rattle.index.proofs.Parts.{key_tells, key_below}
 
-end-within : (e : End) (n : ℕ) (a : Arc) → n ≤ 64 → Within n a → end_of e a < 64
-end-within From n a h w = omega (arith, w.0)
-end-within To n a h w = omega (arith, w.1)
+end_within : (e : End) (n : ℕ) (a : Arc) → n ≤ 64 → Within n a → end_of e a < 64
+end_within From n a h w = omega (arith, w.0)
+end_within To n a h w = omega (arith, w.1)
 
 module _ {W : Type 0} {k : Kind W} (laws : Laws k) where
   -- one place more, with the product of two factors
-  pub places-more : (f g : ℕ → W) (places : List ℕ) (i : ℕ) → i < length places → (found next v x y r : W)
+  pub places_more : (f g : ℕ → W) (places : List ℕ) (i : ℕ) → i < length places → (found next v x y r : W)
       → next ≡ k.plus found v → v ≡ k.times x y → x ≡ f (get_or places i 0) → y ≡ g (get_or places i 0)
       → k.plus found (total k (drop i places) (λ j. k.times (f j) (g j))) ≡ r → k.plus next (total k (drop (i + 1) places) (λ j. k.times (f j) (g j))) ≡ r
-  places-more f g places i h found next v x y r e is left right =
-      total-more laws (λ j. k.times (f j) (g j)) _ _ _ found next r (drop_more places i 0 h) (e ∙ ap (k.plus found) (is ∙ ap₂ k.times left right))
+  places_more f g places i h found next v x y r e is left right =
+      total_more laws (λ j. k.times (f j) (g j)) _ _ _ found next r (drop_more places i 0 h) (e ∙ ap (k.plus found) (is ∙ ap₂ k.times left right))
 
   -- a sum over what passes a test
   total_kept : {A : Type 0} (p : A → Bool) (t : A → W) (xs : List A) → total k (filter p xs) t ≡ total k xs (λ x. cond (p x) (t x) k.zero)
@@ -41,22 +41,22 @@ module _ {W : Type 0} {k : Kind W} (laws : Laws k) where
     where
       one : (b : Bool) (ys : List A) (r : W) → total k ys t ≡ r → total k (cond b (x ∷ ys) ys) t ≡ k.plus (cond b (t x) k.zero) r
       one true ys r e = ap (k.plus (t x)) e
-      one false ys r e = e ∙ sym (zero-plus laws r)
+      one false ys r e = e ∙ sym (zero_plus laws r)
 
   -- a sum over the places of a list is one over the list
-  total-places : {A : Type 0} (xs : List A) (d : A) (t : A → W) → total k (range_with_len 0 (length xs)) (λ i. t (get_or xs i d)) ≡ total k xs t
-  total-places xs d t =
-      sym (total-map laws (λ i. get_or xs i d) (range_with_len 0 (length xs)) t) ∙ ap (λ zs. total k zs t) (sym (fill_by_all (λ i. get_or xs i d) xs (length xs) d refl (λ i h. refl)))
+  total_places : {A : Type 0} (xs : List A) (d : A) (t : A → W) → total k (range_with_len 0 (length xs)) (λ i. t (get_or xs i d)) ≡ total k xs t
+  total_places xs d t =
+      sym (total_map laws (λ i. get_or xs i d) (range_with_len 0 (length xs)) t) ∙ ap (λ zs. total k zs t) (sym (fill_by_all (λ i. get_or xs i d) xs (length xs) d refl (λ i h. refl)))
 
   module _ (arcs : List Arc) (weights : List W) (weighted : length weights ≡ length arcs) (term : Edge W → W) where
     -- a sum over the places of a key is one over the arcs with a test
-    total-placed : (f : Arc → ℕ) (m : ℕ) (test : Arc → Bool) (P : Arc → Type 0) → All P arcs → ((a : Arc) → P a → eqb (f a) m ≡ test a)
+    total_placed : (f : Arc → ℕ) (m : ℕ) (test : Arc → Bool) (P : Arc → Type 0) → All P arcs → ((a : Arc) → P a → eqb (f a) m ≡ test a)
         → total k (placed (λ i. f (get_or arcs i none)) (length arcs) m) (λ i. term (edge_at k arcs weights i)) ≡ total k (zip arcs weights) (λ e. cond (test e.0) (term e) k.zero)
-    total-placed f m test P all same_test =
+    total_placed f m test P all same_test =
         total_kept (λ i. eqb (f (get_or arcs i none)) m) _ (range_with_len 0 (length arcs))
-        ∙ total-below laws (length arcs) _ (λ i. adds (get_or edges i past)) at_place
+        ∙ total_below laws (length arcs) _ (λ i. adds (get_or edges i past)) at_place
         ∙ ap (λ n. total k (range_with_len 0 n) (λ i. adds (get_or edges i past))) (omega (arith, length-zip arcs weights))
-        ∙ total-places edges past adds
+        ∙ total_places edges past adds
       where
         edges : List (Edge W)
         edges = zip arcs weights
@@ -77,16 +77,16 @@ module _ {W : Type 0} {k : Kind W} (laws : Laws k) where
       abbrev entry_of : ℕ → W
       entry_of s = total k (zip arcs weights) (λ a. cond (eqb s (end_of e a.0) && same d a.0.quadrant) (term a) k.zero)
 
-      total-part : (s : ℕ) → s < 64 → total k (part x (digit d * 64 + s)) (λ i. term (edge_at k arcs weights i)) ≡ entry_of s
-      total-part s h =
+      total_part : (s : ℕ) → s < 64 → total k (part x (digit d * 64 + s)) (λ i. term (edge_at k arcs weights i)) ≡ entry_of s
+      total_part s h =
           ap (λ is. total k is (λ i. term (edge_at k arcs weights i))) (indexed.parts (digit d * 64 + s) (key_below d s h))
-          ∙ total-placed (key e) (digit d * 64 + s) (λ a. eqb s (end_of e a) && same d a.quadrant) (Within n) ends
-          (λ a w. key-tells e d s a (end-within e n a few w) h)
+          ∙ total_placed (key e) (digit d * 64 + s) (λ a. eqb s (end_of e a) && same d a.quadrant) (Within n) ends
+          (λ a w. key_tells e d s a (end_within e n a few w) h)
 
       -- one entry more
-      pub entries-more : (s : ℕ) (next : List W) (places : List ℕ) (v : W) → s < 64 → s < length next → places ≡ part x (digit d * 64 + s)
+      pub entries_more : (s : ℕ) (next : List W) (places : List ℕ) (v : W) → s < 64 → s < length next → places ≡ part x (digit d * 64 + s)
           → v ≡ total k places (λ i. term (edge_at k arcs weights i))
           → ((q : ℕ) → q < s → get_or next q k.zero ≡ entry_of q) → (q : ℕ) → q < s + 1 → get_or (set next s v) q k.zero ≡ entry_of q
-      entries-more s next places v h l found is old =
-          let entry : v ≡ entry_of s = is ∙ ap (λ ps. total k ps (λ i. term (edge_at k arcs weights i))) found ∙ total-part s h in
+      entries_more s next places v h l found is old =
+          let entry : v ≡ entry_of s = is ∙ ap (λ ps. total k ps (λ i. term (edge_at k arcs weights i))) found ∙ total_part s h in
           subst (λ w. (q : ℕ) → q < s + 1 → get_or (set next s w) q k.zero ≡ entry_of q) (sym entry) (fill_by_more entry_of next s k.zero l old)

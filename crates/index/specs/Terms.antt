@@ -11,9 +11,9 @@ module _ {W : Type 0} (k : Kind W) where
   edge_at arcs weights i = (slice_index_or arcs i none, slice_index_or weights i k.zero)
 
   -- the row at the source times the weight
-  abbrev pub row-term : (ℕ → W) → Edge W → W
-  row-term row e = k.times (row e.0.from) e.1
+  abbrev pub row_term : (ℕ → W) → Edge W → W
+  row_term row e = k.times (row e.0.from) e.1
 
   -- the weight times the column at the target
-  abbrev pub column-term : (ℕ → W) → Edge W → W
-  column-term column e = k.times e.1 (column e.0.to)
+  abbrev pub column_term : (ℕ → W) → Edge W → W
+  column_term column e = k.times e.1 (column e.0.to)

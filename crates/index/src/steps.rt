@@ -2,10 +2,10 @@ ghost use Rattle.std.specs.Prelude.{◌≡◌, ℕ, ◌<◌, ◌≤◌, map, len
 ghost use Rattle.std.specs.List.{zip, range_with_len, AllByRecursion as All};
 ghost use Rattle.weight.specs.Sums.{total};
 ghost use Rattle.picture.specs.Bodies.{Within};
-ghost use Rattle.picture.specs.Steps.{gathered, spread, at-state};
+ghost use Rattle.picture.specs.Steps.{gathered, spread, at_state};
 ghost use Rattle.index.specs.Indexes.{Indexed};
 ghost use Rattle.index.specs.Keys.{none};
-ghost use Rattle.index.specs.Terms.{edge_at, row-term, column-term};
+ghost use Rattle.index.specs.Terms.{edge_at, row_term, column_term};
 ghost use Rattle.index.specs.declared.index.End.TheVariants.{From, To};
 
 use crate::index::Index;
@@ -26,7 +26,7 @@ pub fn step_row<W: Weight>(
     requires states { length row.now ≤ 64 }
     requires ends { All (Within (length row.now)) arcs.now }
     requires below { length next.old ≤ 64 }
-    ensures { next.new ≡ map (gathered kind (zip arcs.now weights.now) (at-state kind row.now) quadrant) (range_with_len 0 (length next.old)) }
+    ensures { next.new ≡ map (gathered kind (zip arcs.now weights.now) (at_state kind row.now) quadrant) (range_with_len 0 (length next.old)) }
 {
     for (q, entry) in next.iter_mut().enumerate() {
         *entry = gather_row(arcs, weights, row, index.places(quadrant, q));
@@ -47,7 +47,7 @@ pub fn step_column<W: Weight>(
     requires states { length column.now ≤ 64 }
     requires ends { All (Within (length column.now)) arcs.now }
     requires below { length next.old ≤ 64 }
-    ensures { next.new ≡ map (spread kind (zip arcs.now weights.now) (at-state kind column.now) quadrant) (range_with_len 0 (length next.old)) }
+    ensures { next.new ≡ map (spread kind (zip arcs.now weights.now) (at_state kind column.now) quadrant) (range_with_len 0 (length next.old)) }
 {
     for (p, entry) in next.iter_mut().enumerate() {
         *entry = gather_column(arcs, weights, column, index.places(quadrant, p));
@@ -59,7 +59,7 @@ fn gather_row<W: Weight>(arcs: &[Arc], weights: &[W], row: &[W], places: &[u16])
     requires within { (i : ℕ) → i < length places.now → slice_index places.now i < length arcs.now }
     requires weighted { length weights.now ≡ length arcs.now }
     requires ends { (i : ℕ) → i < length arcs.now → Within (length row.now) (slice_index_or arcs.now i none) }
-    ensures { result ≡ total kind places.now (λ i. row-term kind (at-state kind row.now) (edge_at kind arcs.now weights.now i)) }
+    ensures { result ≡ total kind places.now (λ i. row_term kind (at_state kind row.now) (edge_at kind arcs.now weights.now i)) }
 {
     let mut found = W::zero();
     for place in places {
@@ -75,7 +75,7 @@ fn gather_column<W: Weight>(arcs: &[Arc], weights: &[W], column: &[W], places: &
     requires within { (i : ℕ) → i < length places.now → slice_index places.now i < length arcs.now }
     requires weighted { length weights.now ≡ length arcs.now }
     requires ends { (i : ℕ) → i < length arcs.now → Within (length column.now) (slice_index_or arcs.now i none) }
-    ensures { result ≡ total kind places.now (λ i. column-term kind (at-state kind column.now) (edge_at kind arcs.now weights.now i)) }
+    ensures { result ≡ total kind places.now (λ i. column_term kind (at_state kind column.now) (edge_at kind arcs.now weights.now i)) }
 {
     let mut found = W::zero();
     for place in places {

@@ -1,8 +1,8 @@
 //! Weights as text: the number of a value, and the parts of a pair with a slash between them.
 ghost use Rattle.std.specs.Prelude.{◌≡◌, ℕ, List, ◌++◌, IfOk, Some, None, string_bytes, codes, decimal, Option};
-ghost use Rattle.weight.specs.Height.{height-number};
-ghost use Rattle.weight.specs.Mask.{mask-number};
-ghost use Rattle.weight.specs.Valve.{valve-number};
+ghost use Rattle.weight.specs.Height.{height_number};
+ghost use Rattle.weight.specs.Mask.{mask_number};
+ghost use Rattle.weight.specs.Valve.{valve_number};
 
 use std::alloc::{AllocError, Global};
 use weight::{Grey, Height, Ink, Mask, Pair, Valve, Written};
@@ -22,7 +22,7 @@ pub trait Shown: Written {
 }
 
 impl Shown for Mask {
-    ghost text = { λ v. decimal (mask-number v) };
+    ghost text = { λ v. decimal (mask_number v) };
 
     ghost shades = { Some 1 };
 
@@ -50,7 +50,7 @@ impl Shown for Grey {
 }
 
 impl Shown for Height {
-    ghost text = { λ v. decimal (height-number v) };
+    ghost text = { λ v. decimal (height_number v) };
 
     ghost shades = { None };
 
@@ -78,7 +78,7 @@ impl Shown for Ink {
 }
 
 impl Shown for Valve {
-    ghost text = { λ v. decimal (valve-number v) };
+    ghost text = { λ v. decimal (valve_number v) };
 
     ghost shades = { None };
 

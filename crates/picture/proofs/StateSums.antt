@@ -6,24 +6,24 @@ use Rattle.std.proofs.lemmas.List.{length-append, length-map, get_or_append_left
 use Rattle.std.proofs.lemmas.Bool.{cases_eq, eq-eqb, ne_eqb}
 use Rattle.weight.specs.Kinds.{Kind, Laws}
 use Rattle.weight.specs.Sums.{total}
-use Rattle.weight.proofs.Totals.{total-append, total-map}
+use Rattle.weight.proofs.Totals.{total_append, total_map}
 use Rattle.picture.specs.BodyOperations.{paired}
-use Rattle.picture.proofs.States.{counting-append, states-more}
+use Rattle.picture.proofs.States.{counting_append, states_more}
 
-counting-shift : (c a n : ℕ) → range_with_len (c + a) n ≡ map (λ i. c + i) (range_with_len a n)
-counting-shift c a zero = refl
-counting-shift c a (suc n) = ap (λ is. (c + a) ∷ is) (ap (λ x. range_with_len x n) (add_assoc c a 1) ∙ counting-shift c (a + 1) n)
+counting_shift : (c a n : ℕ) → range_with_len (c + a) n ≡ map (λ i. c + i) (range_with_len a n)
+counting_shift c a zero = refl
+counting_shift c a (suc n) = ap (λ is. (c + a) ∷ is) (ap (λ x. range_with_len x n) (add_assoc c a 1) ∙ counting_shift c (a + 1) n)
 
-pub eqb-add : (s p q : ℕ) → eqb (s + p) (s + q) ≡ eqb p q
-eqb-add s p q =
+pub eqb_add : (s p q : ℕ) → eqb (s + p) (s + q) ≡ eqb p q
+eqb_add s p q =
     elim (cases_eq p q) [
       | inl e ↦ eq-eqb (s + p) (s + q) (omega arith) ∙ sym (eq-eqb p q e)
       | inr ne ↦ ne_eqb (s + p) (s + q) (λ e. ne (omega arith)) ∙ sym (ne_eqb p q ne)
     ]
 
 -- a pair of states is told by its parts
-pub eqb-pair : (n p q r s : ℕ) → q < n → s < n → eqb (p * n + q) (r * n + s) ≡ (eqb p r && eqb q s)
-eqb-pair n p q r s hq hs =
+pub eqb_pair : (n p q r s : ℕ) → q < n → s < n → eqb (p * n + q) (r * n + s) ≡ (eqb p r && eqb q s)
+eqb_pair n p q r s hq hs =
     elim (cases_eq (p * n + q) (r * n + s)) [
       | inl e ↦
           let left : p ≡ r = sym (digits_div p hq) ∙ ap (λ x. x / n) e ∙ digits_div r hs in
@@ -36,36 +36,36 @@ eqb-pair n p q r s hq hs =
           ]
     ]
 
-pub length-paired : {A B C : Type 0} (f : A → B → C) (xs : List A) (ys : List B) → length (paired f xs ys) ≡ length xs * length ys
-length-paired f [] ys = sym (zero-mul (length ys))
-length-paired f (x ∷ xs) ys =
-    length-append (map (f x) ys) (paired f xs ys) ∙ ap₂ ◌+◌ (length-map ys (f x)) (length-paired f xs ys) ∙ omega (arith, suc-mul (length xs) (length ys))
+pub length_paired : {A B C : Type 0} (f : A → B → C) (xs : List A) (ys : List B) → length (paired f xs ys) ≡ length xs * length ys
+length_paired f [] ys = sym (zero-mul (length ys))
+length_paired f (x ∷ xs) ys =
+    length-append (map (f x) ys) (paired f xs ys) ∙ ap₂ ◌+◌ (length-map ys (f x)) (length_paired f xs ys) ∙ omega (arith, suc-mul (length xs) (length ys))
 
-pub getD-paired : {A B C : Type 0} (f : A → B → C) (xs : List A) (ys : List B) (p q : ℕ) (a : A) (b : B) (c : C) → p < length xs → q < length ys
+pub get_or_paired : {A B C : Type 0} (f : A → B → C) (xs : List A) (ys : List B) (p q : ℕ) (a : A) (b : B) (c : C) → p < length xs → q < length ys
     → get_or (paired f xs ys) (p * length ys + q) c ≡ f (get_or xs p a) (get_or ys q b)
-getD-paired f [] ys p q a b c hp hq = absurd (omega arith)
-getD-paired f (x ∷ xs) ys zero q a b c hp hq =
+get_or_paired f [] ys p q a b c hp hq = absurd (omega arith)
+get_or_paired f (x ∷ xs) ys zero q a b c hp hq =
     ap (λ i. get_or (map (f x) ys ++ paired f xs ys) i c) (omega arith)
     ∙ get_or_append_left (map (f x) ys) _ c q (omega (arith, length-map ys (f x)))
     ∙ get_or-map (f x) ys q b c hq
-getD-paired f (x ∷ xs) ys (suc p) q a b c hp hq =
+get_or_paired f (x ∷ xs) ys (suc p) q a b c hp hq =
     ap (λ i. get_or (map (f x) ys ++ paired f xs ys) i c) (omega (arith, suc-mul p (length ys), length-map ys (f x)))
     ∙ get_or-append-add (map (f x) ys) _ (p * length ys + q) c
-    ∙ getD-paired f xs ys p q a b c (omega arith) hq
+    ∙ get_or_paired f xs ys p q a b c (omega arith) hq
 
 module _ {W : Type 0} {k : Kind W} (laws : Laws k) where
-  pub total-states-add : (m n : ℕ) (f : ℕ → W) → total k (range_with_len 0 (m + n)) f ≡ k.plus (total k (range_with_len 0 m) f) (total k (range_with_len 0 n) (λ i. f (m + i)))
-  total-states-add m n f =
-      ap (λ is. total k is f) (counting-append 0 m n)
-      ∙ total-append laws (range_with_len 0 m) (range_with_len (0 + m) n) f
+  pub total_states_add : (m n : ℕ) (f : ℕ → W) → total k (range_with_len 0 (m + n)) f ≡ k.plus (total k (range_with_len 0 m) f) (total k (range_with_len 0 n) (λ i. f (m + i)))
+  total_states_add m n f =
+      ap (λ is. total k is f) (counting_append 0 m n)
+      ∙ total_append laws (range_with_len 0 m) (range_with_len (0 + m) n) f
       ∙ ap (k.plus (total k (range_with_len 0 m) f))
-      (ap (λ x. total k (range_with_len x n) f) (omega arith) ∙ ap (λ is. total k is f) (counting-shift m 0 n) ∙ total-map laws (λ i. m + i) (range_with_len 0 n) f)
+      (ap (λ x. total k (range_with_len x n) f) (omega arith) ∙ ap (λ is. total k is f) (counting_shift m 0 n) ∙ total_map laws (λ i. m + i) (range_with_len 0 n) f)
 
-  pub total-states-mul : (m n : ℕ) (f : ℕ → W) → total k (range_with_len 0 (m * n)) f ≡ total k (range_with_len 0 m) (λ p. total k (range_with_len 0 n) (λ q. f (p * n + q)))
-  total-states-mul zero n f = ap (λ x. total k (range_with_len 0 x) f) (zero-mul n)
-  total-states-mul (suc m) n f =
+  pub total_states_mul : (m n : ℕ) (f : ℕ → W) → total k (range_with_len 0 (m * n)) f ≡ total k (range_with_len 0 m) (λ p. total k (range_with_len 0 n) (λ q. f (p * n + q)))
+  total_states_mul zero n f = ap (λ x. total k (range_with_len 0 x) f) (zero-mul n)
+  total_states_mul (suc m) n f =
       ap (λ x. total k (range_with_len 0 x) f) (suc-mul m n)
-      ∙ total-states-add (m * n) n f
-      ∙ ap₂ k.plus (total-states-mul m n f) refl
-      ∙ sym (states-more laws m (λ p. total k (range_with_len 0 n) (λ q. f (p * n + q))))
+      ∙ total_states_add (m * n) n f
+      ∙ ap₂ k.plus (total_states_mul m n f) refl
+      ∙ sym (states_more laws m (λ p. total k (range_with_len 0 n) (λ q. f (p * n + q))))
       ∙ ap (λ x. total k (range_with_len 0 x) (λ p. total k (range_with_len 0 n) (λ q. f (p * n + q)))) (add-one m)

@@ -8,26 +8,26 @@ use Rattle.picture.specs.Stored.{stored, Kept, Fits, Holds}
 use Rattle.picture.specs.declared.body.Arc.{Arc}
 use Rattle.picture.specs.declared.body.Record.{Record}
 
-pub all-zipped : {A B : Type 0} (P : A → Type 0) (xs : List A) (ys : List B) → All P xs → All (λ (e : A × B). P e.0) (zip xs ys)
-all-zipped P [] ys h = tt
-all-zipped P (x ∷ xs) [] h = tt
-all-zipped P (x ∷ xs) (y ∷ ys) h = (h.0, all-zipped P xs ys h.1)
+pub all_zipped : {A B : Type 0} (P : A → Type 0) (xs : List A) (ys : List B) → All P xs → All (λ (e : A × B). P e.0) (zip xs ys)
+all_zipped P [] ys h = tt
+all_zipped P (x ∷ xs) [] h = tt
+all_zipped P (x ∷ xs) (y ∷ ys) h = (h.0, all_zipped P xs ys h.1)
 
-pub stored-sound : {W : Type 0} (r : Record) (mem : List W) → Kept r → length mem ≡ 640 → Sound (stored r mem)
-stored-sound r mem kept room = record {
-  firsts = length-between mem 0 r.states (omega (arith, kept.few-states)) ∙ omega arith;
-  lasts = length-between mem 64 (64 + r.states) (omega (arith, kept.few-states)) ∙ omega arith;
-  ends = all-zipped _ _ (between 128 (128 + r.count) mem) kept.ends;
+pub stored_sound : {W : Type 0} (r : Record) (mem : List W) → Kept r → length mem ≡ 640 → Sound (stored r mem)
+stored_sound r mem kept room = record {
+  firsts = length-between mem 0 r.states (omega (arith, kept.few_states)) ∙ omega arith;
+  lasts = length-between mem 64 (64 + r.states) (omega (arith, kept.few_states)) ∙ omega arith;
+  ends = all_zipped _ _ (between 128 (128 + r.count) mem) kept.ends;
 }
 
 -- a record whose array begins with the arcs
-pub holds-made : (n : ℕ) (arcs used rest : List Arc) → used ≡ arcs → Fits n arcs → Holds n arcs (record { states = n; count = length arcs; arcs = used ++ rest })
-holds-made n arcs used rest e fits =
+pub holds_made : (n : ℕ) (arcs used rest : List Arc) → used ≡ arcs → Fits n arcs → Holds n arcs (record { states = n; count = length arcs; arcs = used ++ rest })
+holds_made n arcs used rest e fits =
     let same : between 0 (length arcs) (used ++ rest) ≡ arcs =
     ap (λ m. take m (used ++ rest)) (omega arith) ∙ take_at used rest (length arcs) (ap length e) ∙ e in
     record {
       states = refl;
       count = refl;
       same = same;
-      kept = record { few-states = fits.few-states; few-arcs = fits.few-arcs; ends = subst (All (Within n)) (sym same) fits.ends };
+      kept = record { few_states = fits.few_states; few_arcs = fits.few_arcs; ends = subst (All (Within n)) (sym same) fits.ends };
     }

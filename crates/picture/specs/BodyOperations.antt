@@ -3,7 +3,7 @@ use Rattle.std.specs.Prelude.{ℕ, ◌+◌, ◌*◌, cond, List, [], ◌∷◌, 
 use Rattle.std.specs.List.{range_with_len, flat_map}
 use Rattle.weight.specs.Kinds.{Kind}
 use Rattle.picture.specs.Bodies.{Body, Edge}
-use Rattle.picture.specs.Operations.{mirrored, whole-value}
+use Rattle.picture.specs.Operations.{mirrored, whole_value}
 use Rattle.picture.specs.Quadrants.{same}
 use Rattle.picture.specs.Steps.{stepped}
 use Rattle.picture.specs.declared.body.Arc.{Arc}
@@ -11,16 +11,16 @@ use Rattle.picture.specs.declared.quadrant.Quadrant.{Quadrant}
 use Rattle.picture.specs.declared.quadrant.Quadrant.TheVariants.{UpperLeft, UpperRight, LowerLeft, LowerRight}
 
 -- the arc from p to q with digit d
-abbrev pub arc-from : ℕ → ℕ → Quadrant → Arc
-arc-from p q d = record { from = p; to = q; quadrant = d }
+abbrev pub arc_from : ℕ → ℕ → Quadrant → Arc
+arc_from p q d = record { from = p; to = q; quadrant = d }
 
 -- both ends raised by n
-abbrev pub raised-arc : ℕ → Arc → Arc
-raised-arc n a = arc-from (n + a.from) (n + a.to) a.quadrant
+abbrev pub raised_arc : ℕ → Arc → Arc
+raised_arc n a = arc_from (n + a.from) (n + a.to) a.quadrant
 
 -- the same, with its weight
 abbrev pub raised : {W : Type 0} → ℕ → Edge W → Edge W
-raised n e = (raised-arc n e.0, e.1)
+raised n e = (raised_arc n e.0, e.1)
 
 -- a's states, then b's; a's arcs, then b's
 abbrev pub sum_body : {W : Type 0} → Body W → Body W → Body W
@@ -36,23 +36,23 @@ abbrev pub paired : {A B C : Type 0} → (A → B → C) → List A → List B �
 paired f xs ys = flat_map (λ x. map (f x) ys) xs
 
 -- the arc of two arcs with one digit, where pair (p, q) is state p·n + q; none of two arcs with different digits
-abbrev pub arc-pair : {W : Type 0} → Kind W → ℕ → Edge W → Edge W → List (Edge W)
-arc-pair k n e f =
+abbrev pub arc_pair : {W : Type 0} → Kind W → ℕ → Edge W → Edge W → List (Edge W)
+arc_pair k n e f =
     cond (same e.0.quadrant f.0.quadrant)
-    ((arc-from (e.0.from * n + f.0.from) (e.0.to * n + f.0.to) e.0.quadrant, k.times e.1 f.1) ∷ [])
+    ((arc_from (e.0.from * n + f.0.from) (e.0.to * n + f.0.to) e.0.quadrant, k.times e.1 f.1) ∷ [])
     []
 
 -- for each of xs in order, and for it each of ys in order, the arc of the two
-abbrev pub arc-pairs : {W : Type 0} → Kind W → ℕ → List (Edge W) → List (Edge W) → List (Edge W)
-arc-pairs k n xs ys = flat_map (λ e. flat_map (arc-pair k n e) ys) xs
+abbrev pub arc_pairs : {W : Type 0} → Kind W → ℕ → List (Edge W) → List (Edge W) → List (Edge W)
+arc_pairs k n xs ys = flat_map (λ e. flat_map (arc_pair k n e) ys) xs
 
 -- pair (p, q) is state p·n_b + q, a's factor first in every product
-abbrev pub product-body : {W : Type 0} → Kind W → Body W → Body W → Body W
-product-body k a b = record {
+abbrev pub product_body : {W : Type 0} → Kind W → Body W → Body W → Body W
+product_body k a b = record {
   states = a.states * b.states;
   first = paired k.times a.first b.first;
   last = paired k.times a.last b.last;
-  arcs = arc-pairs k b.states a.arcs b.arcs;
+  arcs = arc_pairs k b.states a.arcs b.arcs;
 }
 
 -- the digit that a clockwise quarter turn replaces by this one
@@ -64,11 +64,11 @@ unturned LowerRight = LowerLeft
 
 -- an arc's digit by g
 abbrev pub redirected : (Quadrant → Quadrant) → Arc → Arc
-redirected g a = arc-from a.from a.to (g a.quadrant)
+redirected g a = arc_from a.from a.to (g a.quadrant)
 
 -- every arc's digit by g
-abbrev pub redirected-body : {W : Type 0} → (Quadrant → Quadrant) → Body W → Body W
-redirected-body g a = record {
+abbrev pub redirected_body : {W : Type 0} → (Quadrant → Quadrant) → Body W → Body W
+redirected_body g a = record {
   states = a.states;
   first = a.first;
   last = a.last;
@@ -76,16 +76,16 @@ redirected-body g a = record {
 }
 
 -- a clockwise quarter turn
-abbrev pub turned-body : {W : Type 0} → Body W → Body W
-turned-body a = redirected-body unturned a
+abbrev pub turned_body : {W : Type 0} → Body W → Body W
+turned_body a = redirected_body unturned a
 
 -- left and right exchanged
-abbrev pub mirrored-body : {W : Type 0} → Body W → Body W
-mirrored-body a = redirected-body mirrored a
+abbrev pub mirrored_body : {W : Type 0} → Body W → Body W
+mirrored_body a = redirected_body mirrored a
 
 -- the first row times W_d, by the arcs in order
-abbrev pub zoomed-body : {W : Type 0} → Kind W → Quadrant → Body W → Body W
-zoomed-body k d a = record {
+abbrev pub zoomed_body : {W : Type 0} → Kind W → Quadrant → Body W → Body W
+zoomed_body k d a = record {
   states = a.states;
   first = stepped k a.arcs a.states a.first d;
   last = a.last;
@@ -101,24 +101,24 @@ abbrev pub parts : {W : Type 0} → (Quadrant → Body W) → List (Part W)
 parts f = (UpperLeft, f UpperLeft) ∷ (UpperRight, f UpperRight) ∷ (LowerLeft, f LowerLeft) ∷ (LowerRight, f LowerRight) ∷ []
 
 -- how many states parts have
-abbrev pub states-of : {W : Type 0} → List (Part W) → ℕ
-states-of [] = 0
-states-of (p ∷ ps) = p.1.states + states-of ps
+abbrev pub states_of : {W : Type 0} → List (Part W) → ℕ
+states_of [] = 0
+states_of (p ∷ ps) = p.1.states + states_of ps
 
 -- arcs with the part's digit from state 0 to each of its states, which begin at s, carrying the old first weights
 abbrev pub entries : {W : Type 0} → Kind W → ℕ → Part W → List (Edge W)
-entries k s p = map (λ q. (arc-from 0 (s + q) p.0, slice_index_or p.1.first q k.zero)) (range_with_len 0 p.1.states)
+entries k s p = map (λ q. (arc_from 0 (s + q) p.0, slice_index_or p.1.first q k.zero)) (range_with_len 0 p.1.states)
 
 -- for each part the arcs that enter it, then its own; the states of the first part begin at s
-abbrev pub pieced-arcs : {W : Type 0} → Kind W → ℕ → List (Part W) → List (Edge W)
-pieced-arcs k s [] = []
-pieced-arcs k s (p ∷ ps) = entries k s p ++ (map (raised s) p.1.arcs ++ pieced-arcs k (s + p.1.states) ps)
+abbrev pub pieced_arcs : {W : Type 0} → Kind W → ℕ → List (Part W) → List (Edge W)
+pieced_arcs k s [] = []
+pieced_arcs k s (p ∷ ps) = entries k s p ++ (map (raised s) p.1.arcs ++ pieced_arcs k (s + p.1.states) ps)
 
 -- a new state 0, then the states of the parts
-abbrev pub pieced-body : {W : Type 0} → Kind W → (Quadrant → Body W) → Body W
-pieced-body k f = record {
-  states = 1 + states-of (parts f);
-  first = k.one ∷ replicate (states-of (parts f)) k.zero;
-  last = whole-value k ∷ flat_map (λ p. p.1.last) (parts f);
-  arcs = pieced-arcs k 1 (parts f);
+abbrev pub pieced_body : {W : Type 0} → Kind W → (Quadrant → Body W) → Body W
+pieced_body k f = record {
+  states = 1 + states_of (parts f);
+  first = k.one ∷ replicate (states_of (parts f)) k.zero;
+  last = whole_value k ∷ flat_map (λ p. p.1.last) (parts f);
+  arcs = pieced_arcs k 1 (parts f);
 }

@@ -27,34 +27,34 @@ four a b c d LowerLeft = c
 four a b c d LowerRight = d
 
 -- the weights added at each address
-abbrev pub sum-picture : {W : Type 0} → Kind W → Picture W → Picture W → Picture W
-sum-picture k f g w = k.plus (f w) (g w)
+abbrev pub sum_picture : {W : Type 0} → Kind W → Picture W → Picture W → Picture W
+sum_picture k f g w = k.plus (f w) (g w)
 
 -- the weights multiplied at each address, f's factor first
-abbrev pub product-picture : {W : Type 0} → Kind W → Picture W → Picture W → Picture W
-product-picture k f g w = k.times (f w) (g w)
+abbrev pub product_picture : {W : Type 0} → Kind W → Picture W → Picture W → Picture W
+product_picture k f g w = k.times (f w) (g w)
 
 -- a picture looked at with every digit of the address replaced
 abbrev pub replaced : {W : Type 0} → (Quadrant → Quadrant) → Picture W → Picture W
 replaced g f w = f (map g w)
 
 -- a clockwise quarter turn
-abbrev pub turned-picture : {W : Type 0} → Picture W → Picture W
-turned-picture f = replaced turned f
+abbrev pub turned_picture : {W : Type 0} → Picture W → Picture W
+turned_picture f = replaced turned f
 
 -- left and right exchanged
-abbrev pub mirrored-picture : {W : Type 0} → Picture W → Picture W
-mirrored-picture f = replaced mirrored f
+abbrev pub mirrored_picture : {W : Type 0} → Picture W → Picture W
+mirrored_picture f = replaced mirrored f
 
 -- quadrant d, as the whole picture
-abbrev pub zoomed-picture : {W : Type 0} → Quadrant → Picture W → Picture W
-zoomed-picture d f w = f (d ∷ w)
+abbrev pub zoomed_picture : {W : Type 0} → Quadrant → Picture W → Picture W
+zoomed_picture d f w = f (d ∷ w)
 
 -- the value of a piecing at the empty address
-abbrev pub whole-value : {W : Type 0} → Kind W → W
-whole-value k = k.zero
+abbrev pub whole_value : {W : Type 0} → Kind W → W
+whole_value k = k.zero
 
 -- four pictures, each one digit deeper
-abbrev pub pieced-picture : {W : Type 0} → Kind W → (Quadrant → Picture W) → Picture W
-pieced-picture k f [] = whole-value k
-pieced-picture k f (d ∷ w) = f d w
+abbrev pub pieced_picture : {W : Type 0} → Kind W → (Quadrant → Picture W) → Picture W
+pieced_picture k f [] = whole_value k
+pieced_picture k f (d ∷ w) = f d w

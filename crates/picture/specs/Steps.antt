@@ -29,16 +29,16 @@ module _ {W : Type 0} (k : Kind W) (arcs : List (Edge W)) where
   back column (d ∷ w) = spread (back column w) d
 
 -- a row of weights as a function of the state
-abbrev pub at-state : {W : Type 0} → Kind W → List W → ℕ → W
-at-state k row q = slice_index_or row q k.zero
+abbrev pub at_state : {W : Type 0} → Kind W → List W → ℕ → W
+at_state k row q = slice_index_or row q k.zero
 
 -- the whole row step, for n states
 abbrev pub stepped : {W : Type 0} → Kind W → List (Edge W) → ℕ → List W → Quadrant → List W
-stepped k arcs n row d = map (gathered k arcs (at-state k row) d) (range_with_len 0 n)
+stepped k arcs n row d = map (gathered k arcs (at_state k row) d) (range_with_len 0 n)
 
 -- the whole column step, for n states
 abbrev pub spreads : {W : Type 0} → Kind W → List (Edge W) → ℕ → List W → Quadrant → List W
-spreads k arcs n column d = map (spread k arcs (at-state k column) d) (range_with_len 0 n)
+spreads k arcs n column d = map (spread k arcs (at_state k column) d) (range_with_len 0 n)
 
 -- a row taken along an address
 abbrev pub carried : {W : Type 0} → Kind W → List (Edge W) → ℕ → Address → List W → List W

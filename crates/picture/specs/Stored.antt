@@ -16,14 +16,14 @@ stored r mem = record {
 
 -- the counts are within their limits, and both ends of each arc are states
 pub record Kept (r : Record) : Type 0 where
-  pub few-states : r.states ≤ 64
-  pub few-arcs : r.count ≤ 512
+  pub few_states : r.states ≤ 64
+  pub few_arcs : r.count ≤ 512
   pub ends : All (Within r.states) (between 0 r.count r.arcs)
 
 -- so many states and these arcs are within the limits
 pub record Fits (n : ℕ) (arcs : List Arc) : Type 0 where
-  pub few-states : n ≤ 64
-  pub few-arcs : length arcs ≤ 512
+  pub few_states : n ≤ 64
+  pub few_arcs : length arcs ≤ 512
   pub ends : All (Within n) arcs
 
 -- a record of so many states and these arcs, within the limits

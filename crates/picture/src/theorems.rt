@@ -1,24 +1,24 @@
 //! Theorems about pictures and bodies, each as the contract of a function that does nothing.
-ghost use Rattle.picture.specs.OperationStatements.{Sound-results, Sums, Products, Turns, Mirrors, Zooms, Piecings};
+ghost use Rattle.picture.specs.OperationStatements.{SoundResults, Sums, Products, Turns, Mirrors, Zooms, Piecings};
 ghost use Rattle.picture.specs.PictureLaws.{PictureLaws};
-ghost use Rattle.picture.specs.Statements.{Rows-by-arcs, Columns-by-arcs, Meet-in-the-middle};
+ghost use Rattle.picture.specs.Statements.{RowsByArcs, ColumnsByArcs, MeetInTheMiddle};
 
 use weight::Weight;
 
 /// A row times a digit's matrix goes by the arcs that reach a state, and the matrix times a column by those that leave.
 pub fn steps_by_arcs<W: Weight>()
-    ensures rows { Rows-by-arcs {W = W} kind }
-    ensures columns { Columns-by-arcs {W = W} kind }
+    ensures rows { RowsByArcs {W = W} kind }
+    ensures columns { ColumnsByArcs {W = W} kind }
 {}
 
 /// The picture at one address behind another is a row times a column.
 pub fn meet_in_the_middle<W: Weight>()
-    ensures { Meet-in-the-middle {W = W} kind }
+    ensures { MeetInTheMiddle {W = W} kind }
 {}
 
 /// Each operation on bodies has the picture of the operation on pictures; products do on kinds that exchange.
 pub fn operations_stand<W: Weight>()
-    ensures sound { Sound-results {W = W} kind }
+    ensures sound { SoundResults {W = W} kind }
     ensures sums { Sums {W = W} kind }
     ensures products { Products {W = W} kind }
     ensures turns { Turns {W = W} kind }

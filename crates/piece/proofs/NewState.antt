@@ -3,9 +3,9 @@ use Rattle.std.proofs.Common.{◌≡◌, ℕ, suc, ◌+◌, ◌-◌, ◌<◌, Li
 use borrow.Rule.Slice.PartMut.{put_mid}
 use Rattle.std.proofs.lemmas.List.{ext_get_or, append-nil, drop_all, length-replicate, get_or-replicate}
 
-pub firsts-are : {W : Type 0} (one zero : W) (n : ℕ) (out : List W) → length out ≡ n → 0 < n → ((i : ℕ) → i < n → get_or out i zero ≡ zero) → set out 0 one ≡ one ∷ replicate (n - 1) zero
-firsts-are one zero n [] l p h = absurd (omega arith)
-firsts-are one zero n (x ∷ out) l p h =
+pub firsts_are : {W : Type 0} (one zero : W) (n : ℕ) (out : List W) → length out ≡ n → 0 < n → ((i : ℕ) → i < n → get_or out i zero ≡ zero) → set out 0 one ≡ one ∷ replicate (n - 1) zero
+firsts_are one zero n [] l p h = absurd (omega arith)
+firsts_are one zero n (x ∷ out) l p h =
     ap (λ zs. one ∷ zs) (ext_get_or zero out (replicate (n - 1) zero) (omega (arith, length-replicate (n - 1) zero))
     (λ i b. h (suc i) (omega arith) ∙ sym (get_or-replicate (n - 1) i zero zero (omega arith))))
 

@@ -1,12 +1,12 @@
 ghost use Rattle.std.specs.Prelude.{◌≡◌, length, IfOk};
-ghost use Rattle.picture.specs.BodyOperations.{«pieced-body»};
-ghost use Rattle.picture.specs.Operations.{four, «pieced-picture»};
+ghost use Rattle.picture.specs.BodyOperations.{pieced_body};
+ghost use Rattle.picture.specs.Operations.{four, pieced_picture};
 ghost use Rattle.picture.specs.OperationStatements.{Shows};
 ghost use Rattle.picture.specs.Pictures.{picture};
 ghost use Rattle.picture.specs.Stored.{stored, Kept};
-ghost use Rattle.compose.specs.Faults.{«over-limit»};
+ghost use Rattle.compose.specs.Faults.{over_limit};
 ghost use Rattle.compose.specs.Outcomes.{Outcome};
-ghost use Rattle.piece.specs.Parts.{«four-stored»};
+ghost use Rattle.piece.specs.Parts.{four_stored};
 
 use crate::entries::enter_four;
 use crate::rows::{write_firsts, write_lasts};
@@ -35,8 +35,8 @@ pub fn piece<W: Weight>(
     requires room_c { length wc.now ≡ 640 }
     requires room_d { length wd.now ≡ 640 }
     requires room { length out.old ≡ 640 }
-    ensures body { Outcome (over-limit (pieced-body kind (four-stored a.now wa.now b.now wb.now c.now wc.now d.now wd.now))) (pieced-body kind (four-stored a.now wa.now b.now wb.now c.now wc.now d.now wd.now)) out.old out.new result }
-    ensures shows { IfOk result (λ p. Shows kind (stored p out.new) (pieced-picture kind (four (picture kind (stored a.now wa.now)) (picture kind (stored b.now wb.now)) (picture kind (stored c.now wc.now)) (picture kind (stored d.now wd.now))))) }
+    ensures body { Outcome (over_limit (pieced_body kind (four_stored a.now wa.now b.now wb.now c.now wc.now d.now wd.now))) (pieced_body kind (four_stored a.now wa.now b.now wb.now c.now wc.now d.now wd.now)) out.old out.new result }
+    ensures shows { IfOk result (λ p. Shows kind (stored p out.new) (pieced_picture kind (four (picture kind (stored a.now wa.now)) (picture kind (stored b.now wb.now)) (picture kind (stored c.now wc.now)) (picture kind (stored d.now wd.now))))) }
 {
     let na = a.states as usize;
     let nb = b.states as usize;

@@ -1,5 +1,5 @@
 ghost use Rattle.std.specs.Prelude.{◌≡◌, ◌+◌, ◌-◌, ◌<◌, ◌∷◌, ◌++◌, length, replicate};
-ghost use Rattle.picture.specs.Operations.{«whole-value»};
+ghost use Rattle.picture.specs.Operations.{whole_value};
 
 use crate::whole::whole_value;
 use compose::join;
@@ -30,7 +30,7 @@ fn join_four<W: Weight>(a: &[W], b: &[W], c: &[W], d: &[W], out: &mut [W])
 /// The last weight of the new state, then those of the parts.
 pub(crate) fn write_lasts<W: Weight>(a: &[W], b: &[W], c: &[W], d: &[W], out: &mut [W])
     requires { length out.old ≡ 1 + (length a.now + length b.now + (length c.now + length d.now)) }
-    ensures { out.new ≡ whole-value kind ∷ ((a.now ++ b.now) ++ (c.now ++ d.now)) }
+    ensures { out.new ≡ whole_value kind ∷ ((a.now ++ b.now) ++ (c.now ++ d.now)) }
 {
     let n = a.len() + b.len() + (c.len() + d.len());
     out[0] = whole_value();

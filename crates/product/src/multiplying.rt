@@ -1,10 +1,10 @@
 ghost use Rattle.std.specs.Prelude.{◌≡◌, length, IfOk};
-ghost use Rattle.picture.specs.BodyOperations.{«product-body»};
-ghost use Rattle.picture.specs.Operations.{«product-picture»};
+ghost use Rattle.picture.specs.BodyOperations.{product_body};
+ghost use Rattle.picture.specs.Operations.{product_picture};
 ghost use Rattle.picture.specs.OperationStatements.{Shows};
 ghost use Rattle.picture.specs.Pictures.{picture};
 ghost use Rattle.picture.specs.Stored.{stored, Kept};
-ghost use Rattle.compose.specs.Faults.{«product-fault»};
+ghost use Rattle.compose.specs.Faults.{product_fault};
 ghost use Rattle.compose.specs.Outcomes.{Outcome};
 
 use crate::counts::count_matches;
@@ -26,8 +26,8 @@ pub fn multiply<W: Weight>(
     requires room_a { length front.now ≡ 640 }
     requires room_b { length back.now ≡ 640 }
     requires room { length out.old ≡ 640 }
-    ensures body { Outcome (product-fault kind (product-body kind (stored a.now front.now) (stored b.now back.now))) (product-body kind (stored a.now front.now) (stored b.now back.now)) out.old out.new result }
-    ensures shows { IfOk result (λ c. Shows kind (stored c out.new) (product-picture kind (picture kind (stored a.now front.now)) (picture kind (stored b.now back.now)))) }
+    ensures body { Outcome (product_fault kind (product_body kind (stored a.now front.now) (stored b.now back.now))) (product_body kind (stored a.now front.now) (stored b.now back.now)) out.old out.new result }
+    ensures shows { IfOk result (λ c. Shows kind (stored c out.new) (product_picture kind (picture kind (stored a.now front.now)) (picture kind (stored b.now back.now)))) }
 {
     let na = a.states as usize;
     let nb = b.states as usize;

@@ -24,12 +24,12 @@ use Rattle.recipe.specs.Evaluations.{put}
 use Rattle.recipe.specs.Places.{number, place}
 use Rattle.recipe.specs.declared.place.Place.{Place}
 use Rattle.stack.specs.Drawing.{blank}
-use Rattle.book.specs.Calls.{Enter, Clear, Write, Print, Nothing, Words, Cells, Outcome, Places, answers, refused, Enters, entered, not_entered, Writes, too_wide, too_short, written, Prints, no_tile, no_room, printed, with-memory, at_place, Rules}
-use Rattle.book.specs.Statements.{All-limited, WritesBack, EntersAs}
+use Rattle.book.specs.Calls.{Enter, Clear, Write, Print, Nothing, Words, Cells, Outcome, Places, answers, refused, Enters, entered, not_entered, Writes, too_wide, too_short, written, Prints, no_tile, no_room, printed, with_memory, at_place, Rules}
+use Rattle.book.specs.Statements.{AllLimited, WritesBack, EntersAs}
 use Rattle.book.specs.declared.refusal.Refusal.{Refusal}
 use Rattle.book.specs.declared.refusal.Refusal.TheVariants.{ShortMemory, NoPlace, NotEntered, NotWritten, NotPrinted}
-use Rattle.book.proofs.Wording.{entered-back, written_back}
-use Rattle.rack.specs.Racks.{came-to, words-out, or-none, named}
+use Rattle.book.proofs.Wording.{entered_back, written_back}
+use Rattle.rack.specs.Racks.{came_to, words_out, or_none, named}
 
 -- a refusal is no answer
 pub never : {X E T : Type 0} {x : X} {e : E} → ◌≡◌ {A = Result X E} (Err e) (Ok x) → T
@@ -40,101 +40,101 @@ same_ok : {X E : Type 0} {x y : X} → ◌≡◌ {A = Result X E} (Ok x) (Ok y) 
 same_ok p = cc
 
 -- a buffer past what is written to its front
-pub rest-kept : {X : Type 0} (front out out' : List X) (count : ℕ) → count ≡ length front → out' ≡ front ++ drop count out → drop count out' ≡ drop count out
-rest-kept front out out' count counted wrote = ap (drop count) wrote ∙ drop_at front (drop count out) count (sym counted)
+pub rest_kept : {X : Type 0} (front out out' : List X) (count : ℕ) → count ≡ length front → out' ≡ front ++ drop count out → drop count out' ≡ drop count out
+rest_kept front out out' count counted wrote = ap (drop count) wrote ∙ drop_at front (drop count out) count (sym counted)
 
 -- if the buffer is as long as before, what was written to its front is as much as was counted
-pub front-counted : {X : Type 0} (front out out' : List X) (count : ℕ) → length out' ≡ length out → count ≤ length out → out' ≡ front ++ drop count out → count ≡ length front
-front-counted front out out' count kept fits wrote = let whole = ap length wrote ∙ length-append front (drop count out) in omega (arith, whole, length-drop count out)
+pub front_counted : {X : Type 0} (front out out' : List X) (count : ℕ) → length out' ≡ length out → count ≤ length out → out' ≡ front ++ drop count out → count ≡ length front
+front_counted front out out' count kept fits wrote = let whole = ap length wrote ∙ length-append front (drop count out) in omega (arith, whole, length-drop count out)
 
 taken : {X : Type 0} (front out out' : List X) (count : ℕ) → length out' ≡ length out → count ≤ length out → out' ≡ front ++ drop count out → take count out' ≡ front
-taken front out out' count kept fits wrote = ap (take count) wrote ∙ take_at front (drop count out) count (sym (front-counted front out out' count kept fits wrote))
+taken front out out' count kept fits wrote = ap (take count) wrote ∙ take_at front (drop count out) count (sym (front_counted front out out' count kept fits wrote))
 
 -- of a tile that is not printed no cell is written
-pub refused-kept : {W : Type 0} (f : Picture W) (depth digits prefix : ℕ) (out out' : List W) (fault : TileFault) → NotTile f depth digits prefix out out' fault → out' ≡ out
-refused-kept f depth digits prefix out out' NoTile (not, kept) = kept
-refused-kept f depth digits prefix out out' ShortOutput (printable, short, kept) = kept
+pub refused_kept : {W : Type 0} (f : Picture W) (depth digits prefix : ℕ) (out out' : List W) (fault : TileFault) → NotTile f depth digits prefix out out' fault → out' ≡ out
+refused_kept f depth digits prefix out out' NoTile (not, kept) = kept
+refused_kept f depth digits prefix out out' ShortOutput (printable, short, kept) = kept
 
-found-if : (p : Place) (test : Bool) (q : Option Place) → cond test (Err ShortMemory) (or-none q) ≡ Ok p → q ≡ Some p
-found-if p true q is = never is
-found-if p false None is = never is
-found-if p false (Some r) is = ap Some (same_ok is)
+found_if : (p : Place) (test : Bool) (q : Option Place) → cond test (Err ShortMemory) (or_none q) ≡ Ok p → q ≡ Some p
+found_if p true q is = never is
+found_if p false None is = never is
+found_if p false (Some r) is = ap Some (same_ok is)
 
 elsewhere : (t : Place → Record) (p q : Place) (r : Record) → (q ≡ p → ⊥) → (test : Bool) → eqb (number q) (number p) ≡ test → cond test r (t q) ≡ t q
 elsewhere t p q r ne true e = absurd (ne (one_place q p (eqb-true (number q) (number p) e)))
 elsewhere t p q r ne false e = refl
 
 -- a record that is put at the place with the number n leaves the others
-pub others-stay : (t u : Table) (p : Place) (r : Record) → record_of u ≡ put p r (record_of t) → (memory n : ℕ) → Ok p ≡ named memory n
+pub others_stay : (t u : Table) (p : Place) (r : Record) → record_of u ≡ put p r (record_of t) → (memory n : ℕ) → Ok p ≡ named memory n
     → (q : Place) → (place n ≡ Some q → ⊥) → record_of u q ≡ record_of t q
-others-stay t u p r is memory n found q ne =
-    let there : place n ≡ Some p = found-if p (ltb memory 10240) (place n) (sym found) in
+others_stay t u p r is memory n found q ne =
+    let there : place n ≡ Some p = found_if p (ltb memory 10240) (place n) (sym found) in
     (λ i. is i q) ∙ elsewhere (record_of t) p q r (λ e. ne (there ∙ ap Some (sym e))) (eqb (number q) (number p)) refl
 
 module _ {W : Type 0} (k : Kind W) (v : Writing W) (at : Places W) where
-  at-found : (T : Place → Type 0) (o : Outcome W) (p : Place) (test : Bool) (q : Option Place) → cond test (Err ShortMemory) (or-none q) ≡ Ok p → T p
+  at_found : (T : Place → Type 0) (o : Outcome W) (p : Place) (test : Bool) (q : Option Place) → cond test (Err ShortMemory) (or_none q) ≡ Ok p → T p
       → cond test (o ≡ refused at ShortMemory) (MatchOption q (o ≡ refused at NoPlace) T)
-  at-found T o p true q is h = never is
-  at-found T o p false None is h = never is
-  at-found T o p false (Some r) is h = subst T (sym (same_ok is)) h
+  at_found T o p true q is h = never is
+  at_found T o p false None is h = never is
+  at_found T o p false (Some r) is h = subst T (sym (same_ok is)) h
 
   -- what holds at the place that a call names
-  pub at_named : (T : Place → Outcome W → Type 0) (p : Place) (memory n : ℕ) {o o' : Outcome W} → Ok p ≡ named memory n → T p o' → o' ≡ o → with-memory k v at memory o (at_place k v at n o (λ q. T q o))
-  at_named T p memory n {o} is h same = at-found (λ q. T q o) o p (ltb memory 10240) (place n) (sym is) (subst (T p) same h)
+  pub at_named : (T : Place → Outcome W → Type 0) (p : Place) (memory n : ℕ) {o o' : Outcome W} → Ok p ≡ named memory n → T p o' → o' ≡ o → with_memory k v at memory o (at_place k v at n o (λ q. T q o))
+  at_named T p memory n {o} is h same = at_found (λ q. T q o) o p (ltb memory 10240) (place n) (sym is) (subst (T p) same h)
 
   -- words that are entered, or refused
   module _ (p : Place) (memory n : ℕ) (given : List ℕ) (after : Places W) (is : Ok p ≡ named memory n) where
-    pub is-entered : (b : Body W) → SpellsBody v b given → after ≡ put p b at → Rules k v at memory (Enter n given) (came-to (Ok 0) Nothing after)
-    is-entered b spells done = at_named (λ q. Enters k v at q given) p memory n is (entered spells) (ap (came-to (Ok 0) Nothing) (sym done))
+    pub is_entered : (b : Body W) → SpellsBody v b given → after ≡ put p b at → Rules k v at memory (Enter n given) (came_to (Ok 0) Nothing after)
+    is_entered b spells done = at_named (λ q. Enters k v at q given) p memory n is (entered spells) (ap (came_to (Ok 0) Nothing) (sym done))
 
-    pub is-not-entered : (f : Fault) → Refused v given f → after ≡ at → Rules k v at memory (Enter n given) (came-to (Err (NotEntered f)) Nothing after)
-    is-not-entered f fault same = at_named (λ q. Enters k v at q given) p memory n is (not_entered fault) (ap (came-to (Err (NotEntered f)) Nothing) (sym same))
+    pub is_not_entered : (f : Fault) → Refused v given f → after ≡ at → Rules k v at memory (Enter n given) (came_to (Err (NotEntered f)) Nothing after)
+    is_not_entered f fault same = at_named (λ q. Enters k v at q given) p memory n is (not_entered fault) (ap (came_to (Err (NotEntered f)) Nothing) (sym same))
 
   -- entered words are written back
-  pub back-again : (memory n : ℕ) (given : List ℕ) (r : Result ℕ Refusal) (after : Places W) → Rules k v at memory (Enter n given) (came-to r Nothing after) → (i : ℕ) → r ≡ Ok i → WritesBack k v after n given
-  back-again memory n given r after rules i ok = entered-back k v at memory n i given (came-to r Nothing after) rules ok
+  pub back_again : (memory n : ℕ) (given : List ℕ) (r : Result ℕ Refusal) (after : Places W) → Rules k v at memory (Enter n given) (came_to r Nothing after) → (i : ℕ) → r ≡ Ok i → WritesBack k v after n given
+  back_again memory n given r after rules i ok = entered_back k v at memory n i given (came_to r Nothing after) rules ok
 
   -- a cleared place
-  pub cleared : (p : Place) (memory n : ℕ) (after : Places W) → Ok p ≡ named memory n → after ≡ put p blank at → Rules k v at memory (Clear n) (came-to (Ok 0) Nothing after)
-  cleared p memory n after is done = at_named (λ q o. o ≡ answers (put q blank at) 0 Nothing) p memory n is refl (ap (came-to (Ok 0) Nothing) (sym done))
+  pub cleared : (p : Place) (memory n : ℕ) (after : Places W) → Ok p ≡ named memory n → after ≡ put p blank at → Rules k v at memory (Clear n) (came_to (Ok 0) Nothing after)
+  cleared p memory n after is done = at_named (λ q o. o ≡ answers (put q blank at) 0 Nothing) p memory n is refl (ap (came_to (Ok 0) Nothing) (sym done))
 
   -- the words of a place, written or not
   module _ (p : Place) (memory n : ℕ) (b : Body W) (out out' : List ℕ) (is : Ok p ≡ named memory n) (body : b ≡ at p) where
-    pub is-written : (count : ℕ) → length out' ≡ length out → Wrote v (words_of v b) out out' (Ok count) → Rules k v at memory (Write n (length out)) (came-to (Ok count) (Words (take count out')) at)
-    is-written count kept (narrow, counted, wrote) =
+    pub is_written : (count : ℕ) → length out' ≡ length out → Wrote v (words_of v b) out out' (Ok count) → Rules k v at memory (Write n (length out)) (came_to (Ok count) (Words (take count out')) at)
+    is_written count kept (narrow, counted, wrote) =
         let words = words_of v b in
         let same : words_of v (at p) ≡ words = ap (words_of v) (sym body) in
         let fits = ap length wrote ∙ length-append words (drop count out) in
         let room : length words ≤ length out = omega (arith, fits, length-drop count out) in
         let front : words ≡ take count out' = sym (ap (take count) wrote ∙ take_at words (drop count out) count (sym counted)) in
         at_named (λ q. Writes k v at q (length out)) p memory n is (written narrow (subst (λ ws. length ws ≤ length out) (sym same) room))
-        (λ i. came-to (Ok ((ap length same ∙ sym counted) i)) (Words ((same ∙ front) i)) at)
+        (λ i. came_to (Ok ((ap length same ∙ sym counted) i)) (Words ((same ∙ front) i)) at)
 
-    pub is-not-written : (f : WriteFault) → Unwritten v (length (words_of v b)) (length out) f → Rules k v at memory (Write n (length out)) (came-to (Err (NotWritten f)) Nothing at)
-    is-not-written TooWide wide = at_named (λ q. Writes k v at q (length out)) p memory n is (too_wide wide) refl
-    is-not-written TooShort (narrow, short) =
+    pub is_not_written : (f : WriteFault) → Unwritten v (length (words_of v b)) (length out) f → Rules k v at memory (Write n (length out)) (came_to (Err (NotWritten f)) Nothing at)
+    is_not_written TooWide wide = at_named (λ q. Writes k v at q (length out)) p memory n is (too_wide wide) refl
+    is_not_written TooShort (narrow, short) =
         at_named (λ q. Writes k v at q (length out)) p memory n is (too_short narrow (subst (λ c. length out < length (words_of v c)) body short)) refl
 
   -- words that are written enter again
-  pub enters-again : All-limited at → (memory n room : ℕ) (out : List ℕ) (r : Result ℕ Refusal)
-      → Rules k v at memory (Write n room) (came-to r (words-out r out) at) → (i : ℕ) → r ≡ Ok i → EntersAs k v at n (take i out)
-  enters-again limited memory n room out r rules i ok =
-      written_back k v at limited memory n room i (take i out) (came-to r (words-out r out) at) rules ok (ap (λ s. words-out s out) ok)
+  pub enters_again : AllLimited at → (memory n room : ℕ) (out : List ℕ) (r : Result ℕ Refusal)
+      → Rules k v at memory (Write n room) (came_to r (words_out r out) at) → (i : ℕ) → r ≡ Ok i → EntersAs k v at n (take i out)
+  enters_again limited memory n room out r rules i ok =
+      written_back k v at limited memory n room i (take i out) (came_to r (words_out r out) at) rules ok (ap (λ s. words_out s out) ok)
 
   -- the cells of a tile of a place, printed or not
   module _ (p : Place) (memory n : ℕ) (b : Body W) (depth digits prefix : ℕ) (out out' : List W) (after : Places W) (is : Ok p ≡ named memory n) (body : b ≡ at p) (same : after ≡ at) where
-    pub is-printed : (count : ℕ) → length out' ≡ length out → Printed (picture k b) depth digits prefix out out' count
-        → Rules k v at memory (Print n depth digits prefix (length out)) (came-to (Ok count) (Cells (take count out')) after)
-    is-printed count kept done =
+    pub is_printed : (count : ℕ) → length out' ≡ length out → Printed (picture k b) depth digits prefix out out' count
+        → Rules k v at memory (Print n depth digits prefix (length out)) (came_to (Ok count) (Cells (take count out')) after)
+    is_printed count kept done =
         let cells = map (picture k b) (tile depth digits prefix) in
         let front = taken cells out out' count kept done.fits done.cells in
         let shown : map (picture k (at p)) (tile depth digits prefix) ≡ take count out' = ap (λ c. map (picture k c) (tile depth digits prefix)) (sym body) ∙ sym front in
         at_named (λ q. Prints k v at q depth digits prefix (length out)) p memory n is (printed done.printable (omega (arith, done.fits, done.counted)))
-        (λ i. came-to (Ok (sym done.counted i)) (Cells (shown i)) (sym same i))
+        (λ i. came_to (Ok (sym done.counted i)) (Cells (shown i)) (sym same i))
 
-    pub is-not-printed : (f : TileFault) → NotTile (picture k b) depth digits prefix out out' f
-        → Rules k v at memory (Print n depth digits prefix (length out)) (came-to (Err (NotPrinted f)) Nothing after)
-    is-not-printed NoTile (not, kept) =
-        at_named (λ q. Prints k v at q depth digits prefix (length out)) p memory n is (no_tile not) (ap (came-to (Err (NotPrinted NoTile)) Nothing) (sym same))
-    is-not-printed ShortOutput (printable, short, kept) =
-        at_named (λ q. Prints k v at q depth digits prefix (length out)) p memory n is (no_room printable short) (ap (came-to (Err (NotPrinted ShortOutput)) Nothing) (sym same))
+    pub is_not_printed : (f : TileFault) → NotTile (picture k b) depth digits prefix out out' f
+        → Rules k v at memory (Print n depth digits prefix (length out)) (came_to (Err (NotPrinted f)) Nothing after)
+    is_not_printed NoTile (not, kept) =
+        at_named (λ q. Prints k v at q depth digits prefix (length out)) p memory n is (no_tile not) (ap (came_to (Err (NotPrinted NoTile)) Nothing) (sym same))
+    is_not_printed ShortOutput (printable, short, kept) =
+        at_named (λ q. Prints k v at q depth digits prefix (length out)) p memory n is (no_room printable short) (ap (came_to (Err (NotPrinted ShortOutput)) Nothing) (sym same))

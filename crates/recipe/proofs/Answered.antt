@@ -9,11 +9,11 @@ use Rattle.recipe.specs.Trees.{script, Tree, blank, text}
 use Rattle.recipe.specs.Steps.{steps, listed}
 use Rattle.recipe.specs.Limits.{plain, counted, Within}
 use Rattle.recipe.specs.Devices.Reading.{codes}
-use Rattle.recipe.specs.Devices.Machine.{State, begin, run, Blocked, Opens, o-script}
+use Rattle.recipe.specs.Devices.Machine.{State, begin, run, Blocked, Opens, o_script}
 use Rattle.recipe.specs.Devices.Reading.{left, made, first, Got, Lost, byte_of}
 use Rattle.recipe.specs.Outcomes.{Accepted, Begins, WithinTo, byte_at, Refused}
-use Rattle.recipe.proofs.Walks.{walk, none-begins}
-use Rattle.recipe.proofs.Refusals.{spells, codes-++, length-codes, first-at}
+use Rattle.recipe.proofs.Walks.{walk, none_begins}
+use Rattle.recipe.proofs.Refusals.{spells, codes_++, length_codes, first_at}
 
 pub whole : {a b : Reader} (r : Recipe) → length a.src.now ≤ 512 → a.pos ≡ 0 → a.count ≡ 0 → a.waiting ≡ 0 → Got script 0 a b → left b ≡ [] → listed r ≡ made b → Accepted a.src.now r
 whole {a} {b} r le p c w g e m = record {
@@ -37,7 +37,7 @@ module _ (a : Reader) (f : Fault) (p : a.pos ≡ 0) (w : a.waiting ≡ 0) (h : L
   long = omega (arith, h.at)
 
   wide : length (codes h.before) ≡ i
-  wide = length-codes h.before ∙ long
+  wide = length_codes h.before ∙ long
 
   parts : src ≡ codes h.before ++ drop i src
   parts = ap (λ v. drop v a.src.now) (sym p) ∙ h.split
@@ -49,7 +49,7 @@ module _ (a : Reader) (f : Fault) (p : a.pos ≡ 0) (w : a.waiting ≡ 0) (h : L
   is = ap (counted h.tree 0) (sym w) ∙ h.is
 
   word : text h.tree ≡ codes h.before ++ h.here.code ∷ codes h.after
-  word = sym (spells h.tree 0 0) ∙ ap codes is ∙ codes-++ h.before (h.here ∷ h.after)
+  word = sym (spells h.tree 0 0) ∙ ap codes is ∙ codes_++ h.before (h.here ∷ h.after)
 
   begins : Begins h.tree src i
   begins = (h.here.code ∷ codes h.after, word ∙ ap (λ v. v ++ h.here.code ∷ codes h.after) (sym front))
@@ -57,20 +57,20 @@ module _ (a : Reader) (f : Fault) (p : a.pos ≡ 0) (w : a.waiting ≡ 0) (h : L
   fine : WithinTo h.tree i
   fine = subst Within (sym (ap (take i) is ∙ take_at h.before (h.here ∷ h.after) i long)) h.fine
 
-  here-is : byte_at h.tree i ≡ h.here
-  here-is = ap (λ v. get_or v i (plain 0)) is ∙ get_or_at h.before h.here h.after (plain 0) i long
+  here_is : byte_at h.tree i ≡ h.here
+  here_is = ap (λ v. get_or v i (plain 0)) is ∙ get_or_at h.before h.here h.after (plain 0) i long
 
   further : first (drop i src) ≡ Some h.here.code → (i < length src) × Begins h.tree src (i + 1)
   further e =
-      let q = first-at src i h.here.code e in
+      let q = first_at src i h.here.code e in
       (q.0, (codes h.after, word ∙ (λ j. sym front j ++ sym q.1 j ∷ codes h.after) ∙ sym (append_assoc (take i src) (get_or src i 0 ∷ []) (codes h.after)) ∙ ap (λ v. v ++ codes h.after) (sym (take_more src i 0 q.0))))
 
   blocked : ((σ : State) → Opens script σ → Blocked (run σ (codes h.before)) (drop i src)) → Blocked (run (begin blank) (codes h.before)) (drop i src)
-  blocked g = g (begin blank) o-script
+  blocked g = g (begin blank) o_script
 
   no_more : Blocked (run (begin blank) (codes h.before)) (drop i src) → i < length src → (t : Tree script) → Begins t src (i + 1) → ⊥
   no_more g lt t b =
-      none-begins (codes h.before) (get_or src i 0) b.0
+      none_begins (codes h.before) (get_or src i 0) b.0
       (subst (Blocked (run (begin blank) (codes h.before))) (drop_more src i 0 lt) g)
       t
       (b.1 ∙ ap (λ v. v ++ b.0) (take_more src i 0 lt) ∙ append_assoc (take i src) (get_or src i 0 ∷ []) b.0 ∙ ap (λ v. v ++ get_or src i 0 ∷ b.0) front)
@@ -103,7 +103,7 @@ refusal a (Level n) le p w h =
         tree = h.tree;
         begins = q.1;
         within = fine a (Level n) p w h;
-        level = ap (λ v. v.level) (here-is a (Level n) p w h) ∙ h.why.1;
+        level = ap (λ v. v.level) (here_is a (Level n) p w h) ∙ h.why.1;
       },
     )
 refusal a (Waiting n) le p w h =
@@ -114,6 +114,6 @@ refusal a (Waiting n) le p w h =
         tree = h.tree;
         begins = q.1;
         within = fine a (Waiting n) p w h;
-        waiting = ap (λ v. v.waiting) (here-is a (Waiting n) p w h) ∙ h.why.1;
+        waiting = ap (λ v. v.waiting) (here_is a (Waiting n) p w h) ∙ h.why.1;
       },
     )

@@ -57,9 +57,9 @@ abbrev pub stops : {V E : Type 0} → (Place → V) → E → Ran V E
 stops at e = record { after = at; done = 0; stop = Some e }
 
 -- line by line, each from the places as it starts, up to one that is refused
-abbrev pub run-lines : {V E : Type 0} → Operations V E → List Line → (Place → V) → Ran V E
-run-lines o [] at = record { after = at; done = 0; stop = None }
-run-lines o (l ∷ ls) at = either (value o at l.right) (λ v. one_more (run-lines o ls (put l.target v at))) (stops at)
+abbrev pub run_lines : {V E : Type 0} → Operations V E → List Line → (Place → V) → Ran V E
+run_lines o [] at = record { after = at; done = 0; stop = None }
+run_lines o (l ∷ ls) at = either (value o at l.right) (λ v. one_more (run_lines o ls (put l.target v at))) (stops at)
 
 -- the value that waits at i, the latest at 0
 abbrev pub waiting : {V E : Type 0} → Operations V E → List V → ℕ → V

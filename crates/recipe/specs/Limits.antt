@@ -5,16 +5,16 @@ use Rattle.recipe.specs.Places.{letter}
 use Rattle.recipe.specs.Trees.{Cat, Prefix, turn, mirror, zoom, Tree, one, plus, single, times, name, prefixed, round, pieces, closes, row, blank, next}
 
 -- the most bytes of a script
-abbrev pub max-bytes : ℕ
-max-bytes = 512
+abbrev pub max_bytes : ℕ
+max_bytes = 512
 
 -- the highest level: a part that is not a plain place has level 1 plus the number of such parts around it
-abbrev pub max-level : ℕ
-max-level = 16
+abbrev pub max_level : ℕ
+max_level = 16
 
 -- the most pictures that wait at once
-abbrev pub max-waiting : ℕ
-max-waiting = 6
+abbrev pub max_waiting : ℕ
+max_waiting = 6
 
 -- A byte of a tree. Where it begins a part that is not a plain place, `level` is that part's level; where it is a
 -- place on a right side, `waiting` is how many pictures wait once it is read; both are 0 elsewhere.
@@ -61,4 +61,4 @@ counted (next s r) l w = counted s l w ++ counted r l w
 -- none of these bytes exceeds a limit
 abbrev pub Within : List Byte → Type 0
 Within [] = Unit {0}
-Within (m ∷ ms) = (m.level ≤ max-level) × (m.waiting ≤ max-waiting) × Within ms
+Within (m ∷ ms) = (m.level ≤ max_level) × (m.waiting ≤ max_waiting) × Within ms

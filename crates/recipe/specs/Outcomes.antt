@@ -5,7 +5,7 @@ use Rattle.recipe.specs.declared.fault.Fault.TheVariants.{TooLong, Grammar, Leve
 use Rattle.recipe.specs.declared.step.Recipe.{Recipe}
 use Rattle.recipe.specs.Trees.{script, Tree, text}
 use Rattle.recipe.specs.Steps.{steps, listed}
-use Rattle.recipe.specs.Limits.{max-bytes, max-level, max-waiting, Byte, plain, counted, Within}
+use Rattle.recipe.specs.Limits.{max_bytes, max_level, max_waiting, Byte, plain, counted, Within}
 
 -- the text of t begins with the first i bytes of src
 abbrev pub Begins : Tree script → List ℕ → ℕ → Type 0
@@ -41,7 +41,7 @@ pub record TooDeep (src : List ℕ) (i : ℕ) : Type 0 where
   pub tree : Tree script
   pub begins : Begins tree src (i + 1)
   pub within : WithinTo tree i
-  pub level : (byte_at tree i).level ≡ max-level + 1
+  pub level : (byte_at tree i).level ≡ max_level + 1
 
 -- In some script that begins with the bytes of src up to byte i, the place at i is one waiting picture too many, and no
 -- limit is exceeded before.
@@ -50,18 +50,18 @@ pub record TooMany (src : List ℕ) (i : ℕ) : Type 0 where
   pub tree : Tree script
   pub begins : Begins tree src (i + 1)
   pub within : WithinTo tree i
-  pub waiting : (byte_at tree i).waiting ≡ max-waiting + 1
+  pub waiting : (byte_at tree i).waiting ≡ max_waiting + 1
 
 -- src is refused with this fault
 abbrev pub Refused : List ℕ → Fault → Type 0
-Refused src TooLong = max-bytes < length src
-Refused src (Grammar i) = (length src ≤ max-bytes) × Ungrammatical src i
-Refused src (Level i) = (length src ≤ max-bytes) × TooDeep src i
-Refused src (Waiting i) = (length src ≤ max-bytes) × TooMany src i
+Refused src TooLong = max_bytes < length src
+Refused src (Grammar i) = (length src ≤ max_bytes) × Ungrammatical src i
+Refused src (Level i) = (length src ≤ max_bytes) × TooDeep src i
+Refused src (Waiting i) = (length src ≤ max_bytes) × TooMany src i
 
 -- src is the text of a script within the limits, and r has its steps
 pub record Accepted (src : List ℕ) (r : Recipe) : Type 0 where
-  pub short : length src ≤ max-bytes
+  pub short : length src ≤ max_bytes
   pub tree : Tree script
   pub spells : Spells tree src
   pub are : listed r ≡ steps tree 0

@@ -4,7 +4,7 @@ use Rattle.recipe.specs.declared.step.Step.{Step}
 use Rattle.recipe.specs.declared.step.Step.TheVariants.{Name, Turn, Mirror, Zoom, Add, Multiply, Piece, Store}
 use Rattle.recipe.specs.declared.step.Recipe.{Recipe}
 use Rattle.recipe.specs.Trees.{Cat, Prefix, turn, mirror, zoom, Tree, one, plus, single, times, name, prefixed, round, pieces, closes, row, blank, next, spelled, text}
-use Rattle.recipe.specs.Limits.{max-waiting}
+use Rattle.recipe.specs.Limits.{max_waiting}
 
 -- the step of a prefix
 abbrev pub step_of : Prefix → Step
@@ -41,7 +41,7 @@ listed r = take r.count r.steps
 -- v wait then
 abbrev pub Carries : ℕ → List Step → ℕ → Type 0
 Carries w [] v = w ≡ v
-Carries w (Name k ∷ ss) v = (w + 1 ≤ max-waiting) × Carries (w + 1) ss v
+Carries w (Name k ∷ ss) v = (w + 1 ≤ max_waiting) × Carries (w + 1) ss v
 Carries w (Turn ∷ ss) v = (1 ≤ w) × Carries w ss v
 Carries w (Mirror ∷ ss) v = (1 ≤ w) × Carries w ss v
 Carries w (Zoom d ∷ ss) v = (1 ≤ w) × Carries w ss v

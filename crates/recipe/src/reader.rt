@@ -1,8 +1,8 @@
 //! The reader: a position in a script, and the steps of what has been read.
 ghost use Rattle.std.specs.Prelude.{◌≡◌, ◌<◌, ◌≤◌};
-ghost use Rattle.recipe.specs.Limits.{max-waiting};
+ghost use Rattle.recipe.specs.Limits.{max_waiting};
 ghost use Rattle.recipe.specs.Outcomes.{Outcome};
-ghost use Rattle.recipe.specs.Devices.Reading.{first, left, name_at, digitAt, Fit, Taken, Expected, Pushed};
+ghost use Rattle.recipe.specs.Devices.Reading.{first, left, name_at, digit_at, Fit, Taken, Expected, Pushed};
 
 use crate::fault::Fault;
 use crate::limits::MAX_BYTES;
@@ -49,7 +49,7 @@ impl Reader<'_> {
     /// The quadrant whose digit is the next byte, if it is a digit of one.
     fn peek_quadrant(&self) -> Option<Quadrant>
         requires { Fit self.now }
-        ensures { result ≡ digitAt (left self.now) }
+        ensures { result ≡ digit_at (left self.now) }
     {
         match self.peek() {
             Some(b) if b >= b'0' => Quadrant::from_digit(b - b'0'),
@@ -86,7 +86,7 @@ impl Reader<'_> {
     fn push(&mut self, step: Step, waiting: usize)
         requires fit { Fit self.old }
         requires room { self.old.count < self.old.pos }
-        requires few { waiting ≤ max-waiting }
+        requires few { waiting ≤ max_waiting }
         ensures { Pushed step waiting self.old self.new }
     {
         self.steps[self.count] = step;

@@ -1,6 +1,6 @@
 //! The steps of a script.
 ghost use Rattle.std.specs.Prelude.{◌≡◌, ◌≤◌, take};
-ghost use Rattle.recipe.specs.Limits.{max-bytes};
+ghost use Rattle.recipe.specs.Limits.{max_bytes};
 
 use crate::limits::MAX_BYTES;
 use crate::place::Place;
@@ -32,7 +32,7 @@ pub enum Step {
 pub struct Recipe {
     pub(crate) steps: [Step; MAX_BYTES],
     pub(crate) count: usize,
-    ghost room: { count ≤ max-bytes },
+    ghost room: { count ≤ max_bytes },
 }
 
 impl Recipe {

@@ -2,9 +2,9 @@
 use Rattle.std.specs.Prelude.{ℕ, [], Some, None, Ok, Err, Option, Result}
 use Rattle.weight.specs.Kinds.{Kind}
 use Rattle.picture.specs.Bodies.{Body}
-use Rattle.picture.specs.BodyOperations.{sum_body, product-body, turned-body, mirrored-body, zoomed-body, pieced-body}
+use Rattle.picture.specs.BodyOperations.{sum_body, product_body, turned_body, mirrored_body, zoomed_body, pieced_body}
 use Rattle.picture.specs.Operations.{four}
-use Rattle.compose.specs.Faults.{over-limit, product-fault}
+use Rattle.compose.specs.Faults.{over_limit, product_fault}
 use Rattle.compose.specs.declared.limits.Fault.{Fault}
 use Rattle.recipe.specs.Evaluations.{Operations}
 use Rattle.stack.specs.declared.fault.StepFault.{StepFault}
@@ -22,10 +22,10 @@ unless (Some f) i b = Err (record { mark = i; fault = f })
 abbrev pub drawing : {W : Type 0} → Kind W → Operations (Body W) StepFault
 drawing k = record {
   nothing = blank;
-  turn = turned-body;
-  mirror = mirrored-body;
-  zoom = zoomed-body k;
-  add = λ i a b. unless (over-limit (sum_body a b)) i (sum_body a b);
-  multiply = λ i a b. unless (product-fault k (product-body k a b)) i (product-body k a b);
-  piece = λ i a b c d. unless (over-limit (pieced-body k (four a b c d))) i (pieced-body k (four a b c d));
+  turn = turned_body;
+  mirror = mirrored_body;
+  zoom = zoomed_body k;
+  add = λ i a b. unless (over_limit (sum_body a b)) i (sum_body a b);
+  multiply = λ i a b. unless (product_fault k (product_body k a b)) i (product_body k a b);
+  piece = λ i a b c d. unless (over_limit (pieced_body k (four a b c d))) i (pieced_body k (four a b c d));
 }

@@ -1,5 +1,5 @@
 ghost use Rattle.std.specs.Prelude.{◌≡◌, ◌-◌, ◌≤◌, ◌∷◌, length, drop, OnOk};
-ghost use Rattle.picture.specs.BodyOperations.{turned-body, mirrored-body, zoomed-body};
+ghost use Rattle.picture.specs.BodyOperations.{turned_body, mirrored_body, zoomed_body};
 ghost use Rattle.stack.specs.Drawing.{drawing};
 ghost use Rattle.stack.specs.Waiting.{bodies, body_at, Ready, Drawn};
 
@@ -14,7 +14,7 @@ impl Stack {
         requires ready { Ready self.old }
         requires some { 1 ≤ self.old.height }
         requires bays { length work.old ≡ 3840 }
-        ensures bodies { bodies self.new work.new ≡ turned-body (body_at (bodies self.old work.old) 0) ∷ drop 1 (bodies self.old work.old) }
+        ensures bodies { bodies self.new work.new ≡ turned_body (body_at (bodies self.old work.old) 0) ∷ drop 1 (bodies self.old work.old) }
         ensures height { self.new.height ≡ self.old.height }
         ensures ready { Ready self.new }
     {
@@ -31,7 +31,7 @@ impl Stack {
         requires ready { Ready self.old }
         requires some { 1 ≤ self.old.height }
         requires bays { length work.old ≡ 3840 }
-        ensures bodies { bodies self.new work.new ≡ mirrored-body (body_at (bodies self.old work.old) 0) ∷ drop 1 (bodies self.old work.old) }
+        ensures bodies { bodies self.new work.new ≡ mirrored_body (body_at (bodies self.old work.old) 0) ∷ drop 1 (bodies self.old work.old) }
         ensures height { self.new.height ≡ self.old.height }
         ensures ready { Ready self.new }
     {
@@ -48,7 +48,7 @@ impl Stack {
         requires ready { Ready self.old }
         requires some { 1 ≤ self.old.height }
         requires bays { length work.old ≡ 3840 }
-        ensures bodies { bodies self.new work.new ≡ zoomed-body kind quadrant (body_at (bodies self.old work.old) 0) ∷ drop 1 (bodies self.old work.old) }
+        ensures bodies { bodies self.new work.new ≡ zoomed_body kind quadrant (body_at (bodies self.old work.old) 0) ∷ drop 1 (bodies self.old work.old) }
         ensures height { self.new.height ≡ self.old.height }
         ensures ready { Ready self.new }
     {

@@ -1,6 +1,6 @@
 ghost use Rattle.std.specs.Prelude.{◌≡◌, ◌<◌, length};
 ghost use Rattle.std.specs.List.{zip, range_with_len, AllByRecursion as All};
-ghost use Rattle.picture.specs.Steps.{gathered, stepped, at-state};
+ghost use Rattle.picture.specs.Steps.{gathered, stepped, at_state};
 ghost use Rattle.weight.specs.Sums.{total};
 
 use picture::{Arc, Quadrant};
@@ -10,7 +10,7 @@ use weight::Weight;
 /// row's weight at the arc's start times the arc's.
 fn gather<W: Weight>(arcs: &[Arc], weights: &[W], row: &[W], quadrant: Quadrant, q: usize) -> W
     requires { All (λ e. e.0.from < length row.now) (zip arcs.now weights.now) }
-    ensures { result ≡ gathered kind (zip arcs.now weights.now) (at-state kind row.now) quadrant q }
+    ensures { result ≡ gathered kind (zip arcs.now weights.now) (at_state kind row.now) quadrant q }
 {
     let mut sum = W::zero();
     for (arc, weight) in arcs.iter().zip(weights) {
@@ -40,7 +40,7 @@ pub fn advance<W: Weight>(
 /// A row times a column.
 pub fn meet<W: Weight>(row: &[W], column: &[W]) -> W
     requires { length row.now ≡ length column.now }
-    ensures { result ≡ total kind (range_with_len 0 (length row.now)) (λ q. kind.times (at-state kind row.now q) (at-state kind column.now q)) }
+    ensures { result ≡ total kind (range_with_len 0 (length row.now)) (λ q. kind.times (at_state kind row.now q) (at_state kind column.now q)) }
 {
     let mut sum = W::zero();
     for q in 0..row.len() {

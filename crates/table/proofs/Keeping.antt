@@ -10,22 +10,22 @@ use Rattle.picture.specs.declared.body.Record.{Record}
 use Rattle.recipe.specs.Places.{number}
 use Rattle.recipe.specs.declared.place.Place.{Place}
 use Rattle.stack.specs.Waiting.{no_record}
-use Rattle.table.specs.Limits.{no-arc, AllKept}
+use Rattle.table.specs.Limits.{no_arc, AllKept}
 use Rattle.table.specs.Tables.{record_of}
 use Rattle.table.specs.declared.table.Table.{Table}
 
 -- what holds of the first n by their index holds of all of them
-all-taken : {X : Type 0} (P : X → Type 0) (xs : List X) (n : ℕ) (d : X) → ((i : ℕ) → i < n → P (get_or xs i d)) → All P (take n xs)
-all-taken P xs zero d h = tt
-all-taken P [] (suc n) d h = tt
-all-taken P (x ∷ xs) (suc n) d h = (h zero (omega arith), all-taken P xs n d (λ i l. h (suc i) (omega arith)))
+all_taken : {X : Type 0} (P : X → Type 0) (xs : List X) (n : ℕ) (d : X) → ((i : ℕ) → i < n → P (get_or xs i d)) → All P (take n xs)
+all_taken P xs zero d h = tt
+all_taken P [] (suc n) d h = tt
+all_taken P (x ∷ xs) (suc n) d h = (h zero (omega arith), all_taken P xs n d (λ i l. h (suc i) (omega arith)))
 
 -- the record of a place is within the limits
 pub kept_at : (t : Table) → AllKept t → (p : Place) → Kept (record_of t p)
 kept_at t all p = record {
-  few-states = all.few-states (number p);
-  few-arcs = all.few-arcs (number p);
-  ends = rw sub-zero (all-taken _ _ _ no-arc (all.ends (number p)));
+  few_states = all.few_states (number p);
+  few_arcs = all.few_arcs (number p);
+  ends = rw sub-zero (all_taken _ _ _ no_arc (all.ends (number p)));
 }
 
 -- also a record that is read from it
@@ -42,22 +42,22 @@ set_holds P (x ∷ xs) (suc n) y d all here (suc i) = set_holds P xs n y d (λ j
 
 -- the ends of a record's arcs, arc by arc
 abbrev Ends : Record → Type 0
-Ends r = (i : ℕ) → i < r.count → Within r.states (get_or r.arcs i no-arc)
+Ends r = (i : ℕ) → i < r.count → Within r.states (get_or r.arcs i no_arc)
 
-ends-by-index : (r : Record) → Kept r → length r.arcs ≡ 512 → Ends r
-ends-by-index r k full i low =
-    let long = length-between r.arcs 0 r.count (omega (arith, k.few-arcs)) in
-    let within = All-get_or (Within r.states) (between 0 r.count r.arcs) i no-arc (omega arith) k.ends in
-    subst (Within r.states) (get_or-take (r.count - 0) r.arcs i no-arc (omega arith)) within
+ends_by_index : (r : Record) → Kept r → length r.arcs ≡ 512 → Ends r
+ends_by_index r k full i low =
+    let long = length-between r.arcs 0 r.count (omega (arith, k.few_arcs)) in
+    let within = All-get_or (Within r.states) (between 0 r.count r.arcs) i no_arc (omega arith) k.ends in
+    subst (Within r.states) (get_or-take (r.count - 0) r.arcs i no_arc (omega arith)) within
 
 -- a record within the limits takes the place of another
 module _ (t u : Table) (n : ℕ) (r : Record) (is : u.records ≡ set t.records n r) where
   put_holds : (P : Record → Type 0) → ((i : ℕ) → P (get_or t.records i no_record)) → P r → (i : ℕ) → P (get_or u.records i no_record)
   put_holds P all here i = subst (λ rs. P (get_or rs i no_record)) (sym is) (set_holds P t.records n r no_record all here i)
 
-  pub put-kept : AllKept t → Kept r → length r.arcs ≡ 512 → AllKept u
-  put-kept all k full = record {
-    few-states = put_holds (λ s. s.states ≤ 64) all.few-states k.few-states;
-    few-arcs = put_holds (λ s. s.count ≤ 512) all.few-arcs k.few-arcs;
-    ends = put_holds Ends all.ends (ends-by-index r k full);
+  pub put_kept : AllKept t → Kept r → length r.arcs ≡ 512 → AllKept u
+  put_kept all k full = record {
+    few_states = put_holds (λ s. s.states ≤ 64) all.few_states k.few_states;
+    few_arcs = put_holds (λ s. s.count ≤ 512) all.few_arcs k.few_arcs;
+    ends = put_holds Ends all.ends (ends_by_index r k full);
   }

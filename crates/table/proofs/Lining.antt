@@ -12,7 +12,7 @@ use Rattle.stack.specs.Drawing.{drawing}
 use Rattle.stack.specs.Waiting.{Ready, body_at}
 use Rattle.stack.specs.declared.fault.StepFault.{StepFault}
 use Rattle.stack.specs.declared.stack.Stack.{Stack}
-use Rattle.table.specs.Performing.{waiting-in, left-waiting, Stores, Fits}
+use Rattle.table.specs.Performing.{waiting_in, left_waiting, Stores, Fits}
 use Rattle.table.specs.Limits.{AllKept}
 use Rattle.table.specs.Tables.{body_of}
 use Rattle.table.specs.declared.table.Table.{Table}
@@ -28,37 +28,37 @@ first_fits (Multiply i) ss h v c = (c.0, refl)
 first_fits (Piece i) ss h v c = (c.0, refl)
 first_fits (Store p) ss h v c = (c.0, refl)
 
-pub rest-carries : (s : Step) (ss : List Step) (h v : ℕ) → Carries h (s ∷ ss) v → Carries (left-waiting s h) ss v
-rest-carries (Name p) ss h v c = c.1
-rest-carries Turn ss h v c = c.1
-rest-carries Mirror ss h v c = c.1
-rest-carries (Zoom d) ss h v c = c.1
-rest-carries (Add i) ss h v c = c.1
-rest-carries (Multiply i) ss h v c = c.1
-rest-carries (Piece i) ss h v c = c.1
-rest-carries (Store p) ss h v c = c.1
+pub rest_carries : (s : Step) (ss : List Step) (h v : ℕ) → Carries h (s ∷ ss) v → Carries (left_waiting s h) ss v
+rest_carries (Name p) ss h v c = c.1
+rest_carries Turn ss h v c = c.1
+rest_carries Mirror ss h v c = c.1
+rest_carries (Zoom d) ss h v c = c.1
+rest_carries (Add i) ss h v c = c.1
+rest_carries (Multiply i) ss h v c = c.1
+rest_carries (Piece i) ss h v c = c.1
+rest_carries (Store p) ss h v c = c.1
 
 -- a step other than those that store stores nothing
-pub stores-not : (s : Step) → ((p : Place) → s ≡ Store p → ⊥) → Stores s ≡ false
-stores-not (Name p) h = refl
-stores-not Turn h = refl
-stores-not Mirror h = refl
-stores-not (Zoom d) h = refl
-stores-not (Add i) h = refl
-stores-not (Multiply i) h = refl
-stores-not (Piece i) h = refl
-stores-not (Store p) h = absurd (h p refl)
+pub stores_not : (s : Step) → ((p : Place) → s ≡ Store p → ⊥) → Stores s ≡ false
+stores_not (Name p) h = refl
+stores_not Turn h = refl
+stores_not Mirror h = refl
+stores_not (Zoom d) h = refl
+stores_not (Add i) h = refl
+stores_not (Multiply i) h = refl
+stores_not (Piece i) h = refl
+stores_not (Store p) h = absurd (h p refl)
 
 -- a body waits after a step that stores nothing
-one-waits : (s : Step) (h : ℕ) → Stores s ≡ false → Fits s h → 0 < left-waiting s h
-one-waits (Name p) h e f = omega arith
-one-waits Turn h e f = f.0
-one-waits Mirror h e f = f.0
-one-waits (Zoom d) h e f = f.0
-one-waits (Add i) h e f = omega (arith, f.0)
-one-waits (Multiply i) h e f = omega (arith, f.0)
-one-waits (Piece i) h e f = omega (arith, f.0)
-one-waits (Store p) h e f = let z : ◌≡◌ {A = ℕ} 0 1 = cc in absurd (omega arith)
+one_waits : (s : Step) (h : ℕ) → Stores s ≡ false → Fits s h → 0 < left_waiting s h
+one_waits (Name p) h e f = omega arith
+one_waits Turn h e f = f.0
+one_waits Mirror h e f = f.0
+one_waits (Zoom d) h e f = f.0
+one_waits (Add i) h e f = omega (arith, f.0)
+one_waits (Multiply i) h e f = omega (arith, f.0)
+one_waits (Piece i) h e f = omega (arith, f.0)
+one_waits (Store p) h e f = let z : ◌≡◌ {A = ℕ} 0 1 = cc in absurd (omega arith)
 
 -- before step i of a line that began at the table, the stack and the memory `from`
 pub record Reached {W : Type 0} (k : Kind W) (steps : List Step) (i : ℕ) (table-from table : Table) (stack-from stack : Stack) (from memory : List W) : Type 0 where
@@ -67,7 +67,7 @@ pub record Reached {W : Type 0} (k : Kind W) (steps : List Step) (i : ℕ) (tabl
   pub long : length memory ≡ 10240
   pub places : body_of table memory ≡ body_of table-from from
   pub carries : Carries stack.height (drop i steps) 0
-  pub goes : carry (drawing k) steps (waiting-in stack-from from) (body_of table-from from) ≡ carry (drawing k) (drop i steps) (waiting-in stack memory) (body_of table-from from)
+  pub goes : carry (drawing k) steps (waiting_in stack-from from) (body_of table-from from) ≡ carry (drawing k) (drop i steps) (waiting_in stack memory) (body_of table-from from)
   pub some : 0 < i → 0 < stack.height
 
 module _ {W : Type 0} (k : Kind W) (steps : List Step) (i : ℕ) (tf t : Table) (sf s : Stack) (from memory : List W) (r : Reached k steps i tf t sf s from memory) where
@@ -78,43 +78,43 @@ module _ {W : Type 0} (k : Kind W) (steps : List Step) (i : ℕ) (tf t : Table) 
     split : drop i steps ≡ step ∷ drop (i + 1) steps
     split = drop_more steps i d low ∙ ap (λ (x : Step). x ∷ drop (i + 1) steps) is
 
-    pub here-carries : Carries s.height (step ∷ drop (i + 1) steps) 0
-    here-carries = subst (λ (ss : List Step). Carries s.height ss 0) split r.carries
+    pub here_carries : Carries s.height (step ∷ drop (i + 1) steps) 0
+    here_carries = subst (λ (ss : List Step). Carries s.height ss 0) split r.carries
 
-    here-goes : carry (drawing k) steps (waiting-in sf from) at ≡ carry (drawing k) (step ∷ drop (i + 1) steps) (waiting-in s memory) at
-    here-goes = r.goes ∙ ap (λ (ss : List Step). carry (drawing k) ss (waiting-in s memory) at) split
+    here_goes : carry (drawing k) steps (waiting_in sf from) at ≡ carry (drawing k) (step ∷ drop (i + 1) steps) (waiting_in s memory) at
+    here_goes = r.goes ∙ ap (λ (ss : List Step). carry (drawing k) ss (waiting_in s memory) at) split
 
-    pub here-fits : Fits step s.height
-    here-fits = first_fits step (drop (i + 1) steps) s.height 0 here-carries
+    pub here_fits : Fits step s.height
+    here_fits = first_fits step (drop (i + 1) steps) s.height 0 here_carries
 
     -- one step more
-    pub reached-more : (after : Stack) (then : List W) → Stores step ≡ false → Ready after → length then ≡ 10240 → body_of t then ≡ body_of t memory → after.height ≡ left-waiting step s.height
-        → ((ss : List Step) → carry (drawing k) (step ∷ ss) (waiting-in s memory) (body_of t memory) ≡ carry (drawing k) ss (waiting-in after then) (body_of t memory))
+    pub reached_more : (after : Stack) (then : List W) → Stores step ≡ false → Ready after → length then ≡ 10240 → body_of t then ≡ body_of t memory → after.height ≡ left_waiting step s.height
+        → ((ss : List Step) → carry (drawing k) (step ∷ ss) (waiting_in s memory) (body_of t memory) ≡ carry (drawing k) ss (waiting_in after then) (body_of t memory))
         → Reached k steps (i + 1) tf t sf after from then
-    reached-more after then inside ready long places height on = record {
+    reached_more after then inside ready long places height on = record {
       kept = r.kept;
       ready = ready;
       long = long;
       places = places ∙ r.places;
-      carries = subst (λ h. Carries h (drop (i + 1) steps) 0) (sym height) (rest-carries step (drop (i + 1) steps) s.height 0 here-carries);
-      goes = here-goes ∙ subst (λ (b : Place → Body W). carry (drawing k) (step ∷ drop (i + 1) steps) (waiting-in s memory) b ≡ carry (drawing k) (drop (i + 1) steps) (waiting-in after then) b) r.places (on (drop (i + 1) steps));
-      some = λ _. let w = one-waits step s.height inside here-fits in omega arith;
+      carries = subst (λ h. Carries h (drop (i + 1) steps) 0) (sym height) (rest_carries step (drop (i + 1) steps) s.height 0 here_carries);
+      goes = here_goes ∙ subst (λ (b : Place → Body W). carry (drawing k) (step ∷ drop (i + 1) steps) (waiting_in s memory) b ≡ carry (drawing k) (drop (i + 1) steps) (waiting_in after then) b) r.places (on (drop (i + 1) steps));
+      some = λ _. let w = one_waits step s.height inside here_fits in omega arith;
     }
 
     -- a step that is refused
-    pub reached-stop : (f : StepFault) → ((ss : List Step) → carry (drawing k) (step ∷ ss) (waiting-in s memory) (body_of t memory) ≡ stops (body_of t memory) f)
-        → carry (drawing k) steps (waiting-in sf from) at ≡ stops at f
-    reached-stop f on =
-        here-goes ∙ subst (λ (b : Place → Body W). carry (drawing k) (step ∷ drop (i + 1) steps) (waiting-in s memory) b ≡ stops b f) r.places (on (drop (i + 1) steps))
+    pub reached_stop : (f : StepFault) → ((ss : List Step) → carry (drawing k) (step ∷ ss) (waiting_in s memory) (body_of t memory) ≡ stops (body_of t memory) f)
+        → carry (drawing k) steps (waiting_in sf from) at ≡ stops at f
+    reached_stop f on =
+        here_goes ∙ subst (λ (b : Place → Body W). carry (drawing k) (step ∷ drop (i + 1) steps) (waiting_in s memory) b ≡ stops b f) r.places (on (drop (i + 1) steps))
 
   -- the step that stores
-  pub reached-store : (d : Step) (p : Place) → get_or steps i d ≡ Store p → i < length steps → (to : Place → Body W) (after : List (Body W))
-      → to ≡ put p (body_at (waiting-in s memory) 0) (body_of t memory) → after ≡ drop 1 (waiting-in s memory)
-      → carry (drawing k) steps (waiting-in sf from) at ≡ one_more (carry (drawing k) (drop (i + 1) steps) after to)
-  reached-store d p is low to after e rest =
-      here-goes d (Store p) is low
-      ∙ ap (λ (b : Place → Body W). one_more (carry (drawing k) (drop (i + 1) steps) (drop 1 (waiting-in s memory)) (put p (body_at (waiting-in s memory) 0) b))) (sym r.places)
-      ∙ ap (λ (b : Place → Body W). one_more (carry (drawing k) (drop (i + 1) steps) (drop 1 (waiting-in s memory)) b)) (sym e)
+  pub reached_store : (d : Step) (p : Place) → get_or steps i d ≡ Store p → i < length steps → (to : Place → Body W) (after : List (Body W))
+      → to ≡ put p (body_at (waiting_in s memory) 0) (body_of t memory) → after ≡ drop 1 (waiting_in s memory)
+      → carry (drawing k) steps (waiting_in sf from) at ≡ one_more (carry (drawing k) (drop (i + 1) steps) after to)
+  reached_store d p is low to after e rest =
+      here_goes d (Store p) is low
+      ∙ ap (λ (b : Place → Body W). one_more (carry (drawing k) (drop (i + 1) steps) (drop 1 (waiting_in s memory)) (put p (body_at (waiting_in s memory) 0) b))) (sym r.places)
+      ∙ ap (λ (b : Place → Body W). one_more (carry (drawing k) (drop (i + 1) steps) (drop 1 (waiting_in s memory)) b)) (sym e)
       ∙ ap (λ (ws : List (Body W)). one_more (carry (drawing k) (drop (i + 1) steps) ws to)) (sym rest)
 
   -- a line does not end without a step that stores

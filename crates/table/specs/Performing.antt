@@ -19,19 +19,19 @@ abbrev pub work : {W : Type 0} → List W → List W
 work memory = between 5120 8960 memory
 
 -- the bodies that wait in a memory
-abbrev pub waiting-in : {W : Type 0} → Stack → List W → List (Body W)
-waiting-in s memory = bodies s (work memory)
+abbrev pub waiting_in : {W : Type 0} → Stack → List W → List (Body W)
+waiting_in s memory = bodies s (work memory)
 
 -- how many bodies wait after a step
-abbrev pub left-waiting : Step → ℕ → ℕ
-left-waiting (Name p) h = h + 1
-left-waiting Turn h = h
-left-waiting Mirror h = h
-left-waiting (Zoom d) h = h
-left-waiting (Add i) h = h - 1
-left-waiting (Multiply i) h = h - 1
-left-waiting (Piece i) h = h - 3
-left-waiting (Store p) h = h - 1
+abbrev pub left_waiting : Step → ℕ → ℕ
+left_waiting (Name p) h = h + 1
+left_waiting Turn h = h
+left_waiting Mirror h = h
+left_waiting (Zoom d) h = h
+left_waiting (Add i) h = h - 1
+left_waiting (Multiply i) h = h - 1
+left_waiting (Piece i) h = h - 3
+left_waiting (Store p) h = h - 1
 
 -- a step on waiting bodies alone: it neither names a place nor stores to one
 abbrev pub Inner : Step → Type 0
@@ -57,7 +57,7 @@ Stores (Store p) = true
 
 -- enough bodies wait for a step, and not too many after it
 abbrev pub Fits : Step → ℕ → Type 0
-Fits s h = Carries h (s ∷ []) (left-waiting s h)
+Fits s h = Carries h (s ∷ []) (left_waiting s h)
 
 module _ {W : Type 0} (k : Kind W) (at : Place → Body W) where
   -- whatever steps come behind it, a step leads from the waiting bodies ws to the waiting bodies after, or stops
@@ -73,10 +73,10 @@ module _ {W : Type 0} (k : Kind W) (at : Place → Body W) where
       (λ f. (f.line ≡ number) × (carry (drawing k) steps ws at ≡ stops at f.step) × (to ≡ at))
 
 -- the number of lines that were done, or the fault of the next
-abbrev pub lines-done : ℕ → Option StepFault → Result ℕ LineFault
-lines-done n None = Ok n
-lines-done n (Some f) = Err (record { line = n; step = f })
+abbrev pub lines_done : ℕ → Option StepFault → Result ℕ LineFault
+lines_done n None = Ok n
+lines_done n (Some f) = Err (record { line = n; step = f })
 
 -- what a script came to: the bodies after it, and the answer
 abbrev pub Performed : {W : Type 0} → Ran (Body W) StepFault → (after : Place → Body W) → Result ℕ LineFault → Type 0
-Performed ran after r = (ran.after ≡ after) × (r ≡ lines-done ran.done ran.stop)
+Performed ran after r = (ran.after ≡ after) × (r ≡ lines_done ran.done ran.stop)

@@ -7,7 +7,7 @@ ghost use Rattle.picture.specs.Bodies.{Body};
 ghost use Rattle.recipe.specs.Steps.{Carries};
 ghost use Rattle.recipe.specs.declared.place.Place.{Place};
 ghost use Rattle.stack.specs.Waiting.{Ready, bodies, body_at};
-ghost use Rattle.table.specs.Performing.{waiting-in, left-waiting, Inner, Stores, Fits, Stepped, Lined, Performed};
+ghost use Rattle.table.specs.Performing.{waiting_in, left_waiting, Inner, Stores, Fits, Stepped, Lined, Performed};
 ghost use Rattle.table.specs.Limits.{AllKept};
 ghost use Rattle.table.specs.Tables.{body_of};
 
@@ -30,7 +30,7 @@ fn operate<W: Weight>(step: Step, stack: &mut Stack, work: &mut [W]) -> Result<(
     requires ready { Ready stack.old }
     requires bays { length work.old ≡ 3840 }
     ensures stepped { (at : Place → Body W) → Stepped kind at step (bodies stack.old work.old) (bodies stack.new work.new) result }
-    ensures height { OnOk result (stack.new.height ≡ left-waiting step stack.old.height) }
+    ensures height { OnOk result (stack.new.height ≡ left_waiting step stack.old.height) }
     ensures ready { Ready stack.new }
 {
     match step {
@@ -53,7 +53,7 @@ impl Table {
         requires ready { Ready stack.old }
         requires room { stack.old.height < 6 }
         requires bays { length memory.old ≡ 10240 }
-        ensures waiting { waiting-in stack.new memory.new ≡ body_of self.now memory.old place ∷ waiting-in stack.old memory.old }
+        ensures waiting { waiting_in stack.new memory.new ≡ body_of self.now memory.old place ∷ waiting_in stack.old memory.old }
         ensures places { body_of self.now memory.new ≡ body_of self.now memory.old }
         ensures height { stack.new.height ≡ stack.old.height + 1 }
         ensures ready { Ready stack.new }
@@ -71,8 +71,8 @@ impl Table {
         requires ready { Ready stack.old }
         requires some { 1 ≤ stack.old.height }
         requires bays { length memory.old ≡ 10240 }
-        ensures places { body_of self.new memory.new ≡ recipe.put place (body_at (waiting-in stack.old memory.old) 0) (body_of self.old memory.old) }
-        ensures waiting { waiting-in stack.new memory.new ≡ drop 1 (waiting-in stack.old memory.old) }
+        ensures places { body_of self.new memory.new ≡ recipe.put place (body_at (waiting_in stack.old memory.old) 0) (body_of self.old memory.old) }
+        ensures waiting { waiting_in stack.new memory.new ≡ drop 1 (waiting_in stack.old memory.old) }
         ensures height { stack.new.height ≡ stack.old.height - 1 }
         ensures ready { Ready stack.new }
         ensures kept { AllKept self.new }
@@ -98,9 +98,9 @@ impl Table {
         requires kept { AllKept self.now }
         requires ready { Ready stack.old }
         requires bays { length memory.old ≡ 10240 }
-        ensures stepped { Stepped kind (body_of self.now memory.old) step (waiting-in stack.old memory.old) (waiting-in stack.new memory.new) result }
+        ensures stepped { Stepped kind (body_of self.now memory.old) step (waiting_in stack.old memory.old) (waiting_in stack.new memory.new) result }
         ensures places { body_of self.now memory.new ≡ body_of self.now memory.old }
-        ensures height { OnOk result (stack.new.height ≡ left-waiting step stack.old.height) }
+        ensures height { OnOk result (stack.new.height ≡ left_waiting step stack.old.height) }
         ensures ready { Ready stack.new }
     {
         if let Step::Name(place) = step {
@@ -123,7 +123,7 @@ impl Table {
         requires kept { AllKept self.old }
         requires ready { Ready stack.old }
         requires bays { length memory.old ≡ 10240 }
-        ensures lined { Lined kind (body_of self.old memory.old) number steps.now (body_of self.new memory.new) (waiting-in stack.old memory.old) (waiting-in stack.new memory.new) result }
+        ensures lined { Lined kind (body_of self.old memory.old) number steps.now (body_of self.new memory.new) (waiting_in stack.old memory.old) (waiting_in stack.new memory.new) result }
         ensures carries { IfOk result (λ n. Carries stack.new.height (drop n steps.now) 0) }
         ensures kept { AllKept self.new }
         ensures ready { Ready stack.new }

@@ -3,61 +3,61 @@ use Rattle.std.proofs.Common.{◌≡◌, ℕ, zero, suc, ◌+◌, ◌-◌, ◌*�
 use Rattle.std.specs.List.{range_with_len, flat_map}
 use Rattle.std.proofs.lemmas.List.Edits.{length-between}
 use Rattle.std.proofs.lemmas.List.{take_at, drop_at}
-use Rattle.picture.proofs.States.{counting-append}
+use Rattle.picture.proofs.States.{counting_append}
 use Rattle.tile.specs.Bands.{slot}
 
-pub joined-append : {A W : Type 0} (f : A → List W) (xs ys : List A) → flat_map f (xs ++ ys) ≡ flat_map f xs ++ flat_map f ys
-joined-append f [] ys = refl
-joined-append f (x ∷ xs) ys = ap (λ zs. f x ++ zs) (joined-append f xs ys) ∙ sym (append_assoc (f x) (flat_map f xs) (flat_map f ys))
+pub joined_append : {A W : Type 0} (f : A → List W) (xs ys : List A) → flat_map f (xs ++ ys) ≡ flat_map f xs ++ flat_map f ys
+joined_append f [] ys = refl
+joined_append f (x ∷ xs) ys = ap (λ zs. f x ++ zs) (joined_append f xs ys) ∙ sym (append_assoc (f x) (flat_map f xs) (flat_map f ys))
 
 module _ {W : Type 0} where
-  joined-from : (f g : ℕ → List W) (a n : ℕ) → ((i : ℕ) → a ≤ i → i < a + n → f i ≡ g i) → flat_map f (range_with_len a n) ≡ flat_map g (range_with_len a n)
-  joined-from f g a zero e = refl
-  joined-from f g a (suc n) e = ap₂ ◌++◌ (e a (omega arith) (omega arith)) (joined-from f g (a + 1) n (λ i h l. e i (omega arith) (omega arith)))
+  joined_from : (f g : ℕ → List W) (a n : ℕ) → ((i : ℕ) → a ≤ i → i < a + n → f i ≡ g i) → flat_map f (range_with_len a n) ≡ flat_map g (range_with_len a n)
+  joined_from f g a zero e = refl
+  joined_from f g a (suc n) e = ap₂ ◌++◌ (e a (omega arith) (omega arith)) (joined_from f g (a + 1) n (λ i h l. e i (omega arith) (omega arith)))
 
-  pub joined-below : (f g : ℕ → List W) (n : ℕ) → ((i : ℕ) → i < n → f i ≡ g i) → flat_map f (range_with_len 0 n) ≡ flat_map g (range_with_len 0 n)
-  joined-below f g n e = joined-from f g 0 n (λ i h l. e i (omega arith))
+  pub joined_below : (f g : ℕ → List W) (n : ℕ) → ((i : ℕ) → i < n → f i ≡ g i) → flat_map f (range_with_len 0 n) ≡ flat_map g (range_with_len 0 n)
+  joined_below f g n e = joined_from f g 0 n (λ i h l. e i (omega arith))
 
-  joined-shift : (f : ℕ → List W) (a b n : ℕ) → flat_map f (range_with_len (a + b) n) ≡ flat_map (λ i. f (a + i)) (range_with_len b n)
-  joined-shift f a b zero = refl
-  joined-shift f a b (suc n) = ap (λ zs. f (a + b) ++ zs) (ap (λ z. flat_map f (range_with_len z n)) (add_assoc a b 1) ∙ joined-shift f a (b + 1) n)
+  joined_shift : (f : ℕ → List W) (a b n : ℕ) → flat_map f (range_with_len (a + b) n) ≡ flat_map (λ i. f (a + i)) (range_with_len b n)
+  joined_shift f a b zero = refl
+  joined_shift f a b (suc n) = ap (λ zs. f (a + b) ++ zs) (ap (λ z. flat_map f (range_with_len z n)) (add_assoc a b 1) ∙ joined_shift f a (b + 1) n)
 
-  pub joined-add : (f : ℕ → List W) (m n : ℕ) → flat_map f (range_with_len 0 (m + n)) ≡ flat_map f (range_with_len 0 m) ++ flat_map (λ i. f (m + i)) (range_with_len 0 n)
-  joined-add f m n =
-      ap (flat_map f) (counting-append 0 m n)
-      ∙ joined-append f (range_with_len 0 m) (range_with_len (0 + m) n)
-      ∙ ap (λ zs. flat_map f (range_with_len 0 m) ++ zs) (ap (λ z. flat_map f (range_with_len z n)) (zero-add m ∙ sym (add-zero m)) ∙ joined-shift f m 0 n)
+  pub joined_add : (f : ℕ → List W) (m n : ℕ) → flat_map f (range_with_len 0 (m + n)) ≡ flat_map f (range_with_len 0 m) ++ flat_map (λ i. f (m + i)) (range_with_len 0 n)
+  joined_add f m n =
+      ap (flat_map f) (counting_append 0 m n)
+      ∙ joined_append f (range_with_len 0 m) (range_with_len (0 + m) n)
+      ∙ ap (λ zs. flat_map f (range_with_len 0 m) ++ zs) (ap (λ z. flat_map f (range_with_len z n)) (zero-add m ∙ sym (add-zero m)) ∙ joined_shift f m 0 n)
 
   length_from : (f : ℕ → List W) (s a n : ℕ) → ((i : ℕ) → a ≤ i → i < a + n → length (f i) ≡ s) → length (flat_map f (range_with_len a n)) ≡ n * s
   length_from f s a zero e = sym (zero-mul s)
   length_from f s a (suc n) e =
       length-append (f a) _ ∙ omega (arith, e a (omega arith) (omega arith), length_from f s (a + 1) n (λ i h l. e i (omega arith) (omega arith)), suc-mul n s)
 
-  pub length-joined : (f : ℕ → List W) (s n : ℕ) → ((i : ℕ) → i < n → length (f i) ≡ s) → length (flat_map f (range_with_len 0 n)) ≡ n * s
-  length-joined f s n e = length_from f s 0 n (λ i h l. e i (omega arith))
+  pub length_joined : (f : ℕ → List W) (s n : ℕ) → ((i : ℕ) → i < n → length (f i) ≡ s) → length (flat_map f (range_with_len 0 n)) ≡ n * s
+  length_joined f s n e = length_from f s 0 n (λ i h l. e i (omega arith))
 
   -- the i-th part is what was put there
-  pub slot-joined : (f : ℕ → List W) (s n i : ℕ) → ((i : ℕ) → i < n → length (f i) ≡ s) → i < n → slot s i (flat_map f (range_with_len 0 n)) ≡ f i
-  slot-joined f s n i e h =
+  pub slot_joined : (f : ℕ → List W) (s n i : ℕ) → ((i : ℕ) → i < n → length (f i) ≡ s) → i < n → slot s i (flat_map f (range_with_len 0 n)) ≡ f i
+  slot_joined f s n i e h =
       let rest = flat_map (λ j. f (i + 1 + j)) (range_with_len 0 (n - (i + 1))) in
       let before = flat_map f (range_with_len 0 i) in
       let split : flat_map f (range_with_len 0 n) ≡ before ++ (f i ++ rest) =
-      ap (λ z. flat_map f (range_with_len 0 z)) (omega arith) ∙ joined-add f (i + 1) (n - (i + 1))
-      ∙ ap (λ zs. zs ++ rest) (joined-add f i 1 ∙ ap (λ zs. before ++ zs) (ap (λ z. f z ++ []) (add-zero i) ∙ append-nil (f i)))
+      ap (λ z. flat_map f (range_with_len 0 z)) (omega arith) ∙ joined_add f (i + 1) (n - (i + 1))
+      ∙ ap (λ zs. zs ++ rest) (joined_add f i 1 ∙ ap (λ zs. before ++ zs) (ap (λ z. f z ++ []) (add-zero i) ∙ append-nil (f i)))
       ∙ append_assoc before (f i) rest in
-      let long : length before ≡ i * s = length-joined f s i (λ j l. e j (omega arith)) in
+      let long : length before ≡ i * s = length_joined f s i (λ j l. e j (omega arith)) in
       ap₂ (λ z xs. take z (drop (i * s) xs)) (omega arith) split
       ∙ ap (take s) (drop_at before (f i ++ rest) (i * s) long) ∙ take_at (f i) rest s (e i h)
 
   -- parts of parts
-  pub joined-product : (f : ℕ → List W) (s n : ℕ) → flat_map (λ a. flat_map (λ b. f (a * s + b)) (range_with_len 0 s)) (range_with_len 0 n) ≡ flat_map f (range_with_len 0 (n * s))
-  joined-product f s zero = ap (λ z. flat_map f (range_with_len 0 z)) (sym (zero-mul s))
-  joined-product f s (suc n) =
+  pub joined_product : (f : ℕ → List W) (s n : ℕ) → flat_map (λ a. flat_map (λ b. f (a * s + b)) (range_with_len 0 s)) (range_with_len 0 n) ≡ flat_map f (range_with_len 0 (n * s))
+  joined_product f s zero = ap (λ z. flat_map f (range_with_len 0 z)) (sym (zero-mul s))
+  joined_product f s (suc n) =
       ap (λ z. flat_map (λ a. flat_map (λ b. f (a * s + b)) (range_with_len 0 s)) (range_with_len 0 z)) (sym (add-one n))
-      ∙ joined-add (λ a. flat_map (λ b. f (a * s + b)) (range_with_len 0 s)) n 1
-      ∙ ap₂ ◌++◌ (joined-product f s n) (append-nil _ ∙ ap (λ z. flat_map (λ b. f (z * s + b)) (range_with_len 0 s)) (add-zero n))
-      ∙ sym (joined-add f (n * s) s)
+      ∙ joined_add (λ a. flat_map (λ b. f (a * s + b)) (range_with_len 0 s)) n 1
+      ∙ ap₂ ◌++◌ (joined_product f s n) (append-nil _ ∙ ap (λ z. flat_map (λ b. f (z * s + b)) (range_with_len 0 s)) (add-zero n))
+      ∙ sym (joined_add f (n * s) s)
       ∙ ap (λ z. flat_map f (range_with_len 0 z)) (sym (suc-mul n s))
 
-  pub length-slot : (n i : ℕ) (xs : List W) → i * n + n ≤ length xs → length (slot n i xs) ≡ n
-  length-slot n i xs h = length-between xs (i * n) (i * n + n) h ∙ omega arith
+  pub length_slot : (n i : ℕ) (xs : List W) → i * n + n ≤ length xs → length (slot n i xs) ≡ n
+  length_slot n i xs h = length-between xs (i * n) (i * n + n) h ∙ omega arith

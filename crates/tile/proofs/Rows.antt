@@ -10,22 +10,22 @@ use Rattle.picture.specs.Bodies.{Edge}
 use Rattle.picture.specs.Cells.{bit, cell}
 use Rattle.picture.specs.Quadrants.{named}
 use Rattle.picture.specs.Steps.{stepped, carried}
-use Rattle.tile.specs.Bands.{rows-along}
-use Rattle.tile.proofs.Bits.{cell-low, bit-left, bit-right}
-use Rattle.tile.proofs.Joins.{joined-below, joined-add}
+use Rattle.tile.specs.Bands.{rows_along}
+use Rattle.tile.proofs.Bits.{cell_low, bit_left, bit_right}
+use Rattle.tile.proofs.Joins.{joined_below, joined_add}
 
 module _ {W : Type 0} (k : Kind W) (arcs : List (Edge W)) (n : ℕ) (row : List W) (y : ℕ) where
   pub rows_more : (left right xs ys : List W) (h j : ℕ) → h ≡ suc j
       → left ≡ stepped k arcs n row (named (2 * bit j y)) → right ≡ stepped k arcs n row (named (1 + 2 * bit j y))
-      → xs ≡ rows-along k arcs n left j y → ys ≡ rows-along k arcs n right j y → xs ++ ys ≡ rows-along k arcs n row h y
+      → xs ≡ rows_along k arcs n left j y → ys ≡ rows_along k arcs n right j y → xs ++ ys ≡ rows_along k arcs n row h y
   rows_more left right xs ys h j e el er ex ey =
       ap₂ ◌++◌
-      (ex ∙ joined-below _ _ (2 ^ j) (λ x l. ap (carried k arcs n (cell j x y)) (el ∙ digit (2 * bit j y) (bit j x + 2 * bit j y) (omega (arith, bit-left j x l)))))
-      (ey ∙ joined-below _ _ (2 ^ j) (λ x l.
-      ap₂ (carried k arcs n) (sym (cell-low j j x y (omega arith))) (er ∙ digit (1 + 2 * bit j y) (bit j (2 ^ j + x) + 2 * bit j y) (omega (arith, bit-right j x l)))))
-      ∙ sym (joined-add (λ x. carried k arcs n (cell (suc j) x y) row) (2 ^ j) (2 ^ j))
+      (ex ∙ joined_below _ _ (2 ^ j) (λ x l. ap (carried k arcs n (cell j x y)) (el ∙ digit (2 * bit j y) (bit j x + 2 * bit j y) (omega (arith, bit_left j x l)))))
+      (ey ∙ joined_below _ _ (2 ^ j) (λ x l.
+      ap₂ (carried k arcs n) (sym (cell_low j j x y (omega arith))) (er ∙ digit (1 + 2 * bit j y) (bit j (2 ^ j + x) + 2 * bit j y) (omega (arith, bit_right j x l)))))
+      ∙ sym (joined_add (λ x. carried k arcs n (cell (suc j) x y) row) (2 ^ j) (2 ^ j))
       ∙ ap (λ z. flat_map (λ x. carried k arcs n (cell (suc j) x y) row) (range_with_len 0 z)) (sym (two-pow-succ j))
-      ∙ ap (λ h. rows-along k arcs n row h y) (sym e)
+      ∙ ap (λ h. rows_along k arcs n row h y) (sym e)
     where
       digit : (a b : ℕ) → a ≡ b → stepped k arcs n row (named a) ≡ stepped k arcs n row (named b)
       digit a b f = ap (λ z. stepped k arcs n row (named z)) f
@@ -37,14 +37,14 @@ doubled h n d = ap (λ z. z * n) (ap (λ z. 2 ^ z) (omega arith) ∙ two-pow-suc
 pub half_is : (len h n : ℕ) → len ≡ 2 ^ h * n → (h ≡ 0 → ⊥) → len / 2 ≡ 2 ^ (h - 1) * n
 half_is len h n e d = let f = doubled h n d in omega arith
 
-pub two-halves : (len h n : ℕ) → len ≡ 2 ^ h * n → (h ≡ 0 → ⊥) → len ≡ len / 2 + len / 2
-two-halves len h n e d = let f = doubled h n d in omega arith
+pub two_halves : (len h n : ℕ) → len ≡ 2 ^ h * n → (h ≡ 0 → ⊥) → len ≡ len / 2 + len / 2
+two_halves len h n e d = let f = doubled h n d in omega arith
 
 -- two parts written one after the other
-pub two-parts : {X : Type 0} (h : ℕ) (out xs ys : List X) → length out ≡ h + h → length xs ≡ h → length ys ≡ h → put_mid h (h + h - h) (put_mid 0 (h - 0) out xs) ys ≡ xs ++ ys
-two-parts h out xs ys l lx ly = same_lists _ _ (search (rules, places)) (λ k d b. grind (arith, places))
+pub two_parts : {X : Type 0} (h : ℕ) (out xs ys : List X) → length out ≡ h + h → length xs ≡ h → length ys ≡ h → put_mid h (h + h - h) (put_mid 0 (h - 0) out xs) ys ≡ xs ++ ys
+two_parts h out xs ys l lx ly = same_lists _ _ (search (rules, places)) (λ k d b. grind (arith, places))
 
-pub second-part : {X : Type 0} (h : ℕ) (out xs : List X) → length out ≡ h + h → length xs ≡ h → length (between h (h + h) (put_mid 0 (h - 0) out xs)) ≡ h
-second-part h out xs l lx =
+pub second_part : {X : Type 0} (h : ℕ) (out xs : List X) → length out ≡ h + h → length xs ≡ h → length (between h (h + h) (put_mid 0 (h - 0) out xs)) ≡ h
+second_part h out xs l lx =
     let long : length (put_mid 0 (h - 0) out xs) ≡ h + h = search (rules, places) in
     length-between (put_mid 0 (h - 0) out xs) h (h + h) (omega arith) ∙ omega arith

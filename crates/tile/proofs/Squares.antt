@@ -8,68 +8,68 @@ use Rattle.std.proofs.lemmas.List.{flat_map_more, take_all, places}
 use Rattle.std.proofs.lemmas.Slice.{take-put_mid}
 use Rattle.picture.proofs.States.{counting_more}
 
-four-pow : (j : ℕ) → 2 ^ (2 * j) ≡ 4 ^ j
-four-pow zero = refl
-four-pow (suc j) =
+four_pow : (j : ℕ) → 2 ^ (2 * j) ≡ 4 ^ j
+four_pow zero = refl
+four_pow (suc j) =
     let e : 2 ^ (2 * suc j) ≡ 2 ^ suc (suc (2 * j)) = ap (λ z. 2 ^ z) (omega arith) in
-    e ∙ omega (arith, two-pow-succ (suc (2 * j)), two-pow-succ (2 * j), pow-suc 4 j, four-pow j)
+    e ∙ omega (arith, two-pow-succ (suc (2 * j)), two-pow-succ (2 * j), pow-suc 4 j, four_pow j)
 
-pub power-is : (j : ℕ) → j ≤ 12 → (1 * 2 ^ (2 * j)) % 2 ^ 64 ≡ 4 ^ j
-power-is j h = one_shl (2 * j) 64 (omega arith) ∙ four-pow j
+pub power_is : (j : ℕ) → j ≤ 12 → (1 * 2 ^ (2 * j)) % 2 ^ 64 ≡ 4 ^ j
+power_is j h = one_shl (2 * j) 64 (omega arith) ∙ four_pow j
 
-pub square-is : (h : ℕ) → 4 ^ h ≡ 2 ^ h * 2 ^ h
-square-is h = sym (four-pow h) ∙ ap (λ z. 2 ^ z) (omega arith) ∙ pow-add 2 h h
+pub square_is : (h : ℕ) → 4 ^ h ≡ 2 ^ h * 2 ^ h
+square_is h = sym (four_pow h) ∙ ap (λ z. 2 ^ z) (omega arith) ∙ pow-add 2 h h
 
-pub four-pos : (j : ℕ) → 0 < 4 ^ j
-four-pos j = one-le-pow j 4 (lit< tt)
+pub four_pos : (j : ℕ) → 0 < 4 ^ j
+four_pos j = one-le-pow j 4 (lit< tt)
 
 -- the i-th of m parts of n fits
-pub part-fits : (i m n : ℕ) → i < m → i * n + n ≤ m * n
-part-fits i m n h = omega (arith, mul-le (suc i) n m n (omega arith) (omega arith), suc-mul i n)
+pub part_fits : (i m n : ℕ) → i < m → i * n + n ≤ m * n
+part_fits i m n h = omega (arith, mul-le (suc i) n m n (omega arith) (omega arith), suc-mul i n)
 
 pub part_room : (i m n high wide len : ℕ) → high ≡ m → wide ≡ n → len ≡ m * n → i < high → i * wide + wide ≤ len
-part_room i m n high wide len e f l h = omega (arith, part-fits i high wide h, ap₂ ◌*◌ e f)
+part_room i m n high wide len e f l h = omega (arith, part_fits i high wide h, ap₂ ◌*◌ e f)
 
 pub parts_more : {W : Type 0} (f : ℕ → List W) (i : ℕ) → flat_map f (range_with_len 0 (i + 1)) ≡ flat_map f (range_with_len 0 i) ++ f i
 parts_more f i = ap (flat_map f) (counting_more i) ∙ sym (flat_map_more f [] (range_with_len 0 i) i)
 
-length-putMid : {X : Type 0} (a m : ℕ) (xs ys : List X) → a + m ≤ length xs → length ys ≡ m → length (put_mid a m xs ys) ≡ length xs
-length-putMid a m xs ys h l = search (rules, places)
+length_put_mid : {X : Type 0} (a m : ℕ) (xs ys : List X) → a + m ≤ length xs → length ys ≡ m → length (put_mid a m xs ys) ≡ length xs
+length_put_mid a m xs ys h l = search (rules, places)
 
-pub part-long : {X : Type 0} (i n : ℕ) (out part : List X) → i * n + n ≤ length out → length part ≡ n → length (put_mid (i * n) (i * n + n - i * n) out part) ≡ length out
-part-long i n out part h l = length-putMid (i * n) _ out part (omega arith) (omega arith)
+pub part_long : {X : Type 0} (i n : ℕ) (out part : List X) → i * n + n ≤ length out → length part ≡ n → length (put_mid (i * n) (i * n + n - i * n) out part) ≡ length out
+part_long i n out part h l = length_put_mid (i * n) _ out part (omega arith) (omega arith)
 
 -- one part more is written
-pub part-written : {W : Type 0} (f : ℕ → List W) (i n : ℕ) (out part : List W) → i * n + n ≤ length out → length part ≡ n → take (i * n) out ≡ flat_map f (range_with_len 0 i) → part ≡ f i
+pub part_written : {W : Type 0} (f : ℕ → List W) (i n : ℕ) (out part : List W) → i * n + n ≤ length out → length part ≡ n → take (i * n) out ≡ flat_map f (range_with_len 0 i) → part ≡ f i
     → take ((i + 1) * n) (put_mid (i * n) (i * n + n - i * n) out part) ≡ flat_map f (range_with_len 0 (i + 1))
-part-written f i n out part h l e p =
+part_written f i n out part h l e p =
     let m : (i + 1) * n ≡ i * n + length part = ap (λ z. z * n) (omega arith) ∙ suc-mul i n ∙ omega arith in
     take-put_mid (i * n) _ out part ((i + 1) * n) m (omega arith) ∙ ap₂ ◌++◌ e p ∙ sym (parts_more f i)
 
-pub all-written : {W : Type 0} (f : ℕ → List W) (m n : ℕ) (out : List W) → length out ≡ m * n → take (m * n) out ≡ flat_map f (range_with_len 0 m) → out ≡ flat_map f (range_with_len 0 m)
-all-written f m n out l e = sym (take_all (m * n) out (omega arith)) ∙ e
+pub all_written : {W : Type 0} (f : ℕ → List W) (m n : ℕ) (out : List W) → length out ≡ m * n → take (m * n) out ≡ flat_map f (range_with_len 0 m) → out ≡ flat_map f (range_with_len 0 m)
+all_written f m n out l e = sym (take_all (m * n) out (omega arith)) ∙ e
 
 -- rows and columns of a tile fit their room
-pub columns-small : (j n : ℕ) → j ≤ 2 → n ≤ 64 → 4 ^ j * n ≤ 1024
-columns-small j n h l = mul-le (4 ^ j) n 16 64 (four-small j h) l
+pub columns_small : (j n : ℕ) → j ≤ 2 → n ≤ 64 → 4 ^ j * n ≤ 1024
+columns_small j n h l = mul-le (4 ^ j) n 16 64 (four_small j h) l
   where
-    four-small : (j : ℕ) → j ≤ 2 → 4 ^ j ≤ 16
-    four-small zero h = omega arith
-    four-small (suc zero) h = omega arith
-    four-small (suc (suc zero)) h = omega arith
-    four-small (suc (suc (suc j))) h = absurd (omega arith)
+    four_small : (j : ℕ) → j ≤ 2 → 4 ^ j ≤ 16
+    four_small zero h = omega arith
+    four_small (suc zero) h = omega arith
+    four_small (suc (suc zero)) h = omega arith
+    four_small (suc (suc (suc j))) h = absurd (omega arith)
 
-pub rows-small : (j n : ℕ) → j ≤ 4 → n ≤ 64 → 2 ^ j * n ≤ 1024
-rows-small j n h l = mul-le (2 ^ j) n 16 64 (two-small j h) l
+pub rows_small : (j n : ℕ) → j ≤ 4 → n ≤ 64 → 2 ^ j * n ≤ 1024
+rows_small j n h l = mul-le (2 ^ j) n 16 64 (two_small j h) l
   where
-    two-small : (j : ℕ) → j ≤ 4 → 2 ^ j ≤ 16
-    two-small zero h = omega arith
-    two-small (suc zero) h = omega arith
-    two-small (suc (suc zero)) h = omega arith
-    two-small (suc (suc (suc zero))) h = omega arith
-    two-small (suc (suc (suc (suc zero)))) h = omega arith
-    two-small (suc (suc (suc (suc (suc j))))) h = absurd (omega arith)
+    two_small : (j : ℕ) → j ≤ 4 → 2 ^ j ≤ 16
+    two_small zero h = omega arith
+    two_small (suc zero) h = omega arith
+    two_small (suc (suc zero)) h = omega arith
+    two_small (suc (suc (suc zero))) h = omega arith
+    two_small (suc (suc (suc (suc zero)))) h = omega arith
+    two_small (suc (suc (suc (suc (suc j))))) h = absurd (omega arith)
 
 -- a square of cells is so many bands
-pub bands-fill : (c f depth : ℕ) → c + f ≡ depth → 2 ^ depth * 2 ^ depth ≡ 2 ^ c * (2 ^ f * 2 ^ depth)
-bands-fill c f depth e = ap (λ z. z * 2 ^ depth) (ap (λ z. 2 ^ z) (sym e) ∙ pow-add 2 c f) ∙ mul_assoc (2 ^ c) (2 ^ f) (2 ^ depth)
+pub bands_fill : (c f depth : ℕ) → c + f ≡ depth → 2 ^ depth * 2 ^ depth ≡ 2 ^ c * (2 ^ f * 2 ^ depth)
+bands_fill c f depth e = ap (λ z. z * 2 ^ depth) (ap (λ z. 2 ^ z) (sym e) ∙ pow-add 2 c f) ∙ mul_assoc (2 ^ c) (2 ^ f) (2 ^ depth)

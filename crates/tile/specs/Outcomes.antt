@@ -1,6 +1,6 @@
 -- What printing a tile, or one row of it, answers and leaves.
 use Rattle.std.specs.Prelude.{◌≡◌, ℕ, ◌-◌, ◌^◌, ◌<◌, ◌≤◌, List, ◌++◌, map, length, drop, Ok, Err, Result}
-use Rattle.picture.specs.Cells.{base-four, row-of-cells, tile, Printable}
+use Rattle.picture.specs.Cells.{base_four, row_of_cells, tile, Printable}
 use Rattle.picture.specs.Pictures.{Picture}
 use Rattle.tile.specs.declared.printing.Fault.{Fault}
 use Rattle.tile.specs.declared.printing.Fault.TheVariants.{NoTile, ShortOutput}
@@ -29,7 +29,7 @@ module _ {W : Type 0} (f : Picture W) (depth j n y : ℕ) (before after : List W
     pub within : y < 2 ^ (depth - j)
     pub counted : count ≡ 2 ^ (depth - j)
     pub fits : count ≤ length before
-    pub cells : after ≡ map f (row-of-cells (base-four j n) (depth - j) y) ++ drop count before
+    pub cells : after ≡ map f (row_of_cells (base_four j n) (depth - j) y) ++ drop count before
 
   -- the numbers name no tile that has a row y, or the row's cells do not fit; the output is as it was
   abbrev pub RefusedRow : Fault → Type 0

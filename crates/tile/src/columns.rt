@@ -4,7 +4,7 @@ ghost use Rattle.std.specs.List.{range_with_len, flat_map};
 ghost use Rattle.picture.specs.Quadrants.{named};
 ghost use Rattle.picture.specs.Steps.{spreads};
 ghost use Rattle.tile.specs.Automata.{edges, Ready};
-ghost use Rattle.tile.specs.Bands.{slot, columns-along};
+ghost use Rattle.tile.specs.Bands.{slot, columns_along};
 
 use crate::automaton::Automaton;
 use crate::powers::power;
@@ -37,7 +37,7 @@ impl<W: Weight> Automaton<'_, W> {
         requires column { length column.now ≡ self.now.states }
         requires spare { length spare.old ≡ 256 }
         requires columns { length columns.old ≡ 4 ^ digits * self.now.states }
-        ensures { columns.new ≡ columns-along kind (edges self.now) self.now.states column.now digits }
+        ensures { columns.new ≡ columns_along kind (edges self.now) self.now.states column.now digits }
     {
         match digits {
             0 => columns.copy_from_slice(column),

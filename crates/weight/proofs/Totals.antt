@@ -6,82 +6,82 @@ use Rattle.weight.specs.Kinds.{Kind, Laws}
 use Rattle.weight.specs.Sums.{total, product, SumLaws}
 
 -- the item that a loop has come to, and the rest
-pub drop-item : {A : Type 0} (xs : List A) (i : ℕ) (x : A) → i < length xs → x ≡ get_or xs i x → drop i xs ≡ x ∷ drop (i + 1) xs
-drop-item xs i x h read = drop_more xs i x h ∙ ap (λ y. y ∷ drop (i + 1) xs) (sym read)
+pub drop_item : {A : Type 0} (xs : List A) (i : ℕ) (x : A) → i < length xs → x ≡ get_or xs i x → drop i xs ≡ x ∷ drop (i + 1) xs
+drop_item xs i x h read = drop_more xs i x h ∙ ap (λ y. y ∷ drop (i + 1) xs) (sym read)
 
 -- A loop that combines the items of a list: what it has so far, combined with the rest, is the whole.
 module _ {W A : Type 0} (op : W → W → W) (F : List A → W) where
-  combine-more : (f : A → W) → ((x y z : W) → op (op x y) z ≡ op x (op y z)) → ((x : A) (xs : List A) → F (x ∷ xs) ≡ op (f x) (F xs))
+  combine_more : (f : A → W) → ((x y z : W) → op (op x y) z ≡ op x (op y z)) → ((x : A) (xs : List A) → F (x ∷ xs) ≡ op (f x) (F xs))
       → (xs ys : List A) (x : A) (t u r : W) → xs ≡ x ∷ ys → u ≡ op t (f x) → op t (F xs) ≡ r → op u (F ys) ≡ r
-  combine-more f assoc cons xs ys x t u r h e q =
+  combine_more f assoc cons xs ys x t u r h e q =
       ap (λ v. op v (F ys)) e ∙ assoc t (f x) (F ys) ∙ ap (op t) (sym (cons x ys)) ∙ ap (λ zs. op t (F zs)) (sym h) ∙ q
 
-  combine-end : ((x : W) → op x (F []) ≡ x) → (xs : List A) (t r : W) → xs ≡ [] → op t (F xs) ≡ r → t ≡ r
-  combine-end unit xs t r h q = sym (unit t) ∙ ap (λ zs. op t (F zs)) (sym h) ∙ q
+  combine_end : ((x : W) → op x (F []) ≡ x) → (xs : List A) (t r : W) → xs ≡ [] → op t (F xs) ≡ r → t ≡ r
+  combine_end unit xs t r h q = sym (unit t) ∙ ap (λ zs. op t (F zs)) (sym h) ∙ q
 
 module _ {W : Type 0} {k : Kind W} (laws : Laws k) where
-  pub zero-plus : (x : W) → k.plus k.zero x ≡ x
-  zero-plus x = laws.plus_comm k.zero x ∙ laws.plus-zero x
+  pub zero_plus : (x : W) → k.plus k.zero x ≡ x
+  zero_plus x = laws.plus_comm k.zero x ∙ laws.plus_zero x
 
   -- (x + y) + (z + t) = (x + z) + (y + t)
-  pub plus-four : (x y z t : W) → k.plus (k.plus x y) (k.plus z t) ≡ k.plus (k.plus x z) (k.plus y t)
-  plus-four x y z t =
+  pub plus_four : (x y z t : W) → k.plus (k.plus x y) (k.plus z t) ≡ k.plus (k.plus x z) (k.plus y t)
+  plus_four x y z t =
       laws.plus_assoc x y (k.plus z t)
       ∙ ap (k.plus x) (sym (laws.plus_assoc y z t) ∙ ap (λ u. k.plus u t) (laws.plus_comm y z) ∙ laws.plus_assoc z y t)
       ∙ sym (laws.plus_assoc x z (k.plus y t))
 
-  pub total-append : {A : Type 0} (xs ys : List A) (f : A → W) → total k (xs ++ ys) f ≡ k.plus (total k xs f) (total k ys f)
-  total-append [] ys f = sym (zero-plus (total k ys f))
-  total-append (x ∷ xs) ys f = ap (k.plus (f x)) (total-append xs ys f) ∙ sym (laws.plus_assoc (f x) (total k xs f) (total k ys f))
+  pub total_append : {A : Type 0} (xs ys : List A) (f : A → W) → total k (xs ++ ys) f ≡ k.plus (total k xs f) (total k ys f)
+  total_append [] ys f = sym (zero_plus (total k ys f))
+  total_append (x ∷ xs) ys f = ap (k.plus (f x)) (total_append xs ys f) ∙ sym (laws.plus_assoc (f x) (total k xs f) (total k ys f))
 
-  pub total-map : {A B : Type 0} (g : A → B) (xs : List A) (f : B → W) → total k (map g xs) f ≡ total k xs (λ x. f (g x))
-  total-map g [] f = refl
-  total-map g (x ∷ xs) f = ap (k.plus (f (g x))) (total-map g xs f)
+  pub total_map : {A B : Type 0} (g : A → B) (xs : List A) (f : B → W) → total k (map g xs) f ≡ total k xs (λ x. f (g x))
+  total_map g [] f = refl
+  total_map g (x ∷ xs) f = ap (k.plus (f (g x))) (total_map g xs f)
 
-  pub total-joined : {A B : Type 0} (g : A → List B) (xs : List A) (f : B → W) → total k (flat_map g xs) f ≡ total k xs (λ x. total k (g x) f)
-  total-joined g [] f = refl
-  total-joined g (x ∷ xs) f = total-append (g x) (flat_map g xs) f ∙ ap (k.plus (total k (g x) f)) (total-joined g xs f)
+  pub total_joined : {A B : Type 0} (g : A → List B) (xs : List A) (f : B → W) → total k (flat_map g xs) f ≡ total k xs (λ x. total k (g x) f)
+  total_joined g [] f = refl
+  total_joined g (x ∷ xs) f = total_append (g x) (flat_map g xs) f ∙ ap (k.plus (total k (g x) f)) (total_joined g xs f)
 
   -- equal terms, under a fact of each element
-  pub total-all : {A : Type 0} (P : A → Type 0) (xs : List A) (f g : A → W) → All P xs → ((x : A) → P x → f x ≡ g x) → total k xs f ≡ total k xs g
-  total-all P [] f g h e = refl
-  total-all P (x ∷ xs) f g h e = ap₂ k.plus (e x h.0) (total-all P xs f g h.1 e)
+  pub total_all : {A : Type 0} (P : A → Type 0) (xs : List A) (f g : A → W) → All P xs → ((x : A) → P x → f x ≡ g x) → total k xs f ≡ total k xs g
+  total_all P [] f g h e = refl
+  total_all P (x ∷ xs) f g h e = ap₂ k.plus (e x h.0) (total_all P xs f g h.1 e)
 
-  pub total-zero : {A : Type 0} (xs : List A) → total k xs (λ _. k.zero) ≡ k.zero
-  total-zero [] = refl
-  total-zero (x ∷ xs) = zero-plus _ ∙ total-zero xs
+  pub total_zero : {A : Type 0} (xs : List A) → total k xs (λ _. k.zero) ≡ k.zero
+  total_zero [] = refl
+  total_zero (x ∷ xs) = zero_plus _ ∙ total_zero xs
 
-  pub total-plus : {A : Type 0} (xs : List A) (f g : A → W) → total k xs (λ x. k.plus (f x) (g x)) ≡ k.plus (total k xs f) (total k xs g)
-  total-plus [] f g = sym (zero-plus k.zero)
-  total-plus (x ∷ xs) f g = ap (k.plus (k.plus (f x) (g x))) (total-plus xs f g) ∙ plus-four (f x) (g x) (total k xs f) (total k xs g)
+  pub total_plus : {A : Type 0} (xs : List A) (f g : A → W) → total k xs (λ x. k.plus (f x) (g x)) ≡ k.plus (total k xs f) (total k xs g)
+  total_plus [] f g = sym (zero_plus k.zero)
+  total_plus (x ∷ xs) f g = ap (k.plus (k.plus (f x) (g x))) (total_plus xs f g) ∙ plus_four (f x) (g x) (total k xs f) (total k xs g)
 
-  pub total-swap : {A B : Type 0} (xs : List A) (ys : List B) (f : A → B → W) → total k xs (λ x. total k ys (f x)) ≡ total k ys (λ y. total k xs (λ x. f x y))
-  total-swap [] ys f = sym (total-zero ys)
-  total-swap (x ∷ xs) ys f = ap (k.plus (total k ys (f x))) (total-swap xs ys f) ∙ sym (total-plus ys (f x) (λ y. total k xs (λ x. f x y)))
+  pub total_swap : {A B : Type 0} (xs : List A) (ys : List B) (f : A → B → W) → total k xs (λ x. total k ys (f x)) ≡ total k ys (λ y. total k xs (λ x. f x y))
+  total_swap [] ys f = sym (total_zero ys)
+  total_swap (x ∷ xs) ys f = ap (k.plus (total k ys (f x))) (total_swap xs ys f) ∙ sym (total_plus ys (f x) (λ y. total k xs (λ x. f x y)))
 
-  pub times-total : {A : Type 0} (c : W) (xs : List A) (f : A → W) → k.times c (total k xs f) ≡ total k xs (λ x. k.times c (f x))
-  times-total c [] f = laws.times_zero c
-  times-total c (x ∷ xs) f = laws.times-plus c (f x) (total k xs f) ∙ ap (k.plus (k.times c (f x))) (times-total c xs f)
+  pub times_total : {A : Type 0} (c : W) (xs : List A) (f : A → W) → k.times c (total k xs f) ≡ total k xs (λ x. k.times c (f x))
+  times_total c [] f = laws.times_zero c
+  times_total c (x ∷ xs) f = laws.times_plus c (f x) (total k xs f) ∙ ap (k.plus (k.times c (f x))) (times_total c xs f)
 
-  pub total-times : {A : Type 0} (c : W) (xs : List A) (f : A → W) → k.times (total k xs f) c ≡ total k xs (λ x. k.times (f x) c)
-  total-times c [] f = laws.zero-times c
-  total-times c (x ∷ xs) f = laws.plus_times (f x) (total k xs f) c ∙ ap (k.plus (k.times (f x) c)) (total-times c xs f)
+  pub total_times : {A : Type 0} (c : W) (xs : List A) (f : A → W) → k.times (total k xs f) c ≡ total k xs (λ x. k.times (f x) c)
+  total_times c [] f = laws.zero_times c
+  total_times c (x ∷ xs) f = laws.plus_times (f x) (total k xs f) c ∙ ap (k.plus (k.times (f x) c)) (total_times c xs f)
 
-  pub sums-stand : (A B : Type 0) → SumLaws k A B
-  sums-stand A B = record { exchange = total-swap; times-total = times-total; total-times = total-times }
+  pub sums_stand : (A B : Type 0) → SumLaws k A B
+  sums_stand A B = record { exchange = total_swap; times_total = times_total; total_times = total_times }
 
-  pub product-more : (xs ys : List W) (x t u r : W) → xs ≡ x ∷ ys → u ≡ k.times t x → k.times t (product k xs) ≡ r → k.times u (product k ys) ≡ r
-  product-more = combine-more k.times (product k) (λ x. x) laws.times-assoc (λ x xs. refl)
+  pub product_more : (xs ys : List W) (x t u r : W) → xs ≡ x ∷ ys → u ≡ k.times t x → k.times t (product k xs) ≡ r → k.times u (product k ys) ≡ r
+  product_more = combine_more k.times (product k) (λ x. x) laws.times_assoc (λ x xs. refl)
 
-  pub product-end : (xs : List W) (t r : W) → xs ≡ [] → k.times t (product k xs) ≡ r → t ≡ r
-  product-end = combine-end k.times (product k) laws.times-one
+  pub product_end : (xs : List W) (t r : W) → xs ≡ [] → k.times t (product k xs) ≡ r → t ≡ r
+  product_end = combine_end k.times (product k) laws.times_one
 
   module _ {A : Type 0} (f : A → W) where
-    pub total-start : (xs ys : List A) (t : W) → t ≡ k.zero → xs ≡ ys → k.plus t (total k xs f) ≡ total k ys f
-    total-start xs ys t e h = ap₂ k.plus e (ap (λ zs. total k zs f) h) ∙ zero-plus _
+    pub total_start : (xs ys : List A) (t : W) → t ≡ k.zero → xs ≡ ys → k.plus t (total k xs f) ≡ total k ys f
+    total_start xs ys t e h = ap₂ k.plus e (ap (λ zs. total k zs f) h) ∙ zero_plus _
 
-    pub total-more : (xs ys : List A) (x : A) (t u r : W) → xs ≡ x ∷ ys → u ≡ k.plus t (f x) → k.plus t (total k xs f) ≡ r → k.plus u (total k ys f) ≡ r
-    total-more = combine-more k.plus (λ zs. total k zs f) f laws.plus_assoc (λ x xs. refl)
+    pub total_more : (xs ys : List A) (x : A) (t u r : W) → xs ≡ x ∷ ys → u ≡ k.plus t (f x) → k.plus t (total k xs f) ≡ r → k.plus u (total k ys f) ≡ r
+    total_more = combine_more k.plus (λ zs. total k zs f) f laws.plus_assoc (λ x xs. refl)
 
-    pub total-end : (xs : List A) (t r : W) → xs ≡ [] → k.plus t (total k xs f) ≡ r → t ≡ r
-    total-end = combine-end k.plus (λ zs. total k zs f) laws.plus-zero
+    pub total_end : (xs : List A) (t r : W) → xs ≡ [] → k.plus t (total k xs f) ≡ r → t ≡ r
+    total_end = combine_end k.plus (λ zs. total k zs f) laws.plus_zero

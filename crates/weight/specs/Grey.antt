@@ -2,15 +2,15 @@
 use Rattle.std.specs.Prelude.{ℕ, ◌+◌, ◌*◌, ◌%◌, true}
 use Rattle.std.proofs.Common.{arith}
 use Rattle.weight.specs.Kinds.{Kind}
-use Rattle.weight.specs.Words.{Writing, single-word}
+use Rattle.weight.specs.Words.{Writing, single_word}
 use Rattle.weight.specs.declared.grey.Grey.{Grey}
 
 -- the grey that a number comes to
 abbrev pub grey : ℕ → Grey
 grey n = record { level = n % 65536; fits = omega arith }
 
-abbrev pub grey-kind : Kind Grey
-grey-kind = record {
+abbrev pub grey_kind : Kind Grey
+grey_kind = record {
   zero = grey 0;
   one = grey 1;
   plus = λ a b. grey (a.level + b.level);
@@ -18,5 +18,5 @@ grey-kind = record {
   exchanges = true;
 }
 
-abbrev pub grey-writing : Writing Grey
-grey-writing = single-word 2 (λ a. a.level)
+abbrev pub grey_writing : Writing Grey
+grey_writing = single_word 2 (λ a. a.level)

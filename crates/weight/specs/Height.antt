@@ -2,11 +2,11 @@
 use Rattle.std.specs.Prelude.{ℕ, ◌+◌, ◌*◌, ◌/◌, ◌%◌, min, true}
 use Rattle.std.proofs.Common.{arith}
 use Rattle.weight.specs.Kinds.{Kind}
-use Rattle.weight.specs.Words.{Writing, single-word}
+use Rattle.weight.specs.Words.{Writing, single_word}
 use Rattle.weight.specs.declared.height.Height.{Height}
 
-abbrev pub height-number : Height → ℕ
-height-number h = h.high * 65536 + h.middle * 256 + h.low
+abbrev pub height_number : Height → ℕ
+height_number h = h.high * 65536 + h.middle * 256 + h.low
 
 -- the height that a number comes to, in three bytes
 abbrev pub height : ℕ → Height
@@ -18,14 +18,14 @@ height n = record {
 }
 
 -- 16,777,215 stands for no height at all, and is the kind's zero
-abbrev pub height-kind : Kind Height
-height-kind = record {
+abbrev pub height_kind : Kind Height
+height_kind = record {
   zero = height 16777215;
   one = height 0;
-  plus = λ a b. height (min (height-number a) (height-number b));
-  times = λ a b. height (height-number a + height-number b);
+  plus = λ a b. height (min (height_number a) (height_number b));
+  times = λ a b. height (height_number a + height_number b);
   exchanges = true;
 }
 
-abbrev pub height-writing : Writing Height
-height-writing = single-word 3 height-number
+abbrev pub height_writing : Writing Height
+height_writing = single_word 3 height_number

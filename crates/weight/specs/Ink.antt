@@ -2,15 +2,15 @@
 use Rattle.std.specs.Prelude.{ℕ, ◌+◌, ◌*◌, min, true}
 use Rattle.std.proofs.Common.{arith}
 use Rattle.weight.specs.Kinds.{Kind}
-use Rattle.weight.specs.Words.{Writing, single-word}
+use Rattle.weight.specs.Words.{Writing, single_word}
 use Rattle.weight.specs.declared.ink.Ink.{Ink}
 
 -- the ink that a number comes to
 abbrev pub ink : ℕ → Ink
 ink n = record { amount = min n 255; fits = omega arith }
 
-abbrev pub ink-kind : Kind Ink
-ink-kind = record {
+abbrev pub ink_kind : Kind Ink
+ink_kind = record {
   zero = ink 0;
   one = ink 1;
   plus = λ a b. ink (a.amount + b.amount);
@@ -18,5 +18,5 @@ ink-kind = record {
   exchanges = true;
 }
 
-abbrev pub ink-writing : Writing Ink
-ink-writing = single-word 4 (λ a. a.amount)
+abbrev pub ink_writing : Writing Ink
+ink_writing = single_word 4 (λ a. a.amount)

@@ -13,13 +13,13 @@ pub record Kind (W : Type 0) : Type 0 where
 pub record Laws {W : Type 0} (k : Kind W) : Type 0 where
   pub plus_assoc : (x y z : W) → k.plus (k.plus x y) z ≡ k.plus x (k.plus y z)
   pub plus_comm : (x y : W) → k.plus x y ≡ k.plus y x
-  pub plus-zero : (x : W) → k.plus x k.zero ≡ x
-  pub times-assoc : (x y z : W) → k.times (k.times x y) z ≡ k.times x (k.times y z)
-  pub one-times : (x : W) → k.times k.one x ≡ x
-  pub times-one : (x : W) → k.times x k.one ≡ x
-  pub zero-times : (x : W) → k.times k.zero x ≡ k.zero
+  pub plus_zero : (x : W) → k.plus x k.zero ≡ x
+  pub times_assoc : (x y z : W) → k.times (k.times x y) z ≡ k.times x (k.times y z)
+  pub one_times : (x : W) → k.times k.one x ≡ x
+  pub times_one : (x : W) → k.times x k.one ≡ x
+  pub zero_times : (x : W) → k.times k.zero x ≡ k.zero
   pub times_zero : (x : W) → k.times x k.zero ≡ k.zero
-  pub times-plus : (x y z : W) → k.times x (k.plus y z) ≡ k.plus (k.times x y) (k.times x z)
+  pub times_plus : (x y z : W) → k.times x (k.plus y z) ≡ k.plus (k.times x y) (k.times x z)
   pub plus_times : (x y z : W) → k.times (k.plus x y) z ≡ k.plus (k.times x z) (k.times y z)
   pub apart : k.zero ≡ k.one → ⊥
-  pub times-comm : k.exchanges ≡ true → (x y : W) → k.times x y ≡ k.times y x
+  pub times_comm : k.exchanges ≡ true → (x y : W) → k.times x y ≡ k.times y x

@@ -1,14 +1,14 @@
 -- Masks: 0 and 1 under or and and.
 use Rattle.std.specs.Prelude.{ℕ, Bool, true, false, cond, ◌&&◌, ◌||◌}
 use Rattle.weight.specs.Kinds.{Kind}
-use Rattle.weight.specs.Words.{Writing, single-word}
+use Rattle.weight.specs.Words.{Writing, single_word}
 use Rattle.weight.specs.declared.mask.Mask.{Mask}
 
 abbrev pub mask : Bool → Mask
 mask b = record { set = b }
 
-abbrev pub mask-kind : Kind Mask
-mask-kind = record {
+abbrev pub mask_kind : Kind Mask
+mask_kind = record {
   zero = mask false;
   one = mask true;
   plus = λ a b. mask (a.set || b.set);
@@ -16,8 +16,8 @@ mask-kind = record {
   exchanges = true;
 }
 
-abbrev pub mask-number : Mask → ℕ
-mask-number a = cond a.set 1 0
+abbrev pub mask_number : Mask → ℕ
+mask_number a = cond a.set 1 0
 
-abbrev pub mask-writing : Writing Mask
-mask-writing = single-word 1 mask-number
+abbrev pub mask_writing : Writing Mask
+mask_writing = single_word 1 mask_number

@@ -8,8 +8,8 @@ abbrev pub pair : {A B : Type 0} → A → B → Pair A B
 pair a b = record { first = a; second = b }
 
 -- part by part
-abbrev pub pair-kind : {A B : Type 0} → Kind A → Kind B → Kind (Pair A B)
-pair-kind j k = record {
+abbrev pub pair_kind : {A B : Type 0} → Kind A → Kind B → Kind (Pair A B)
+pair_kind j k = record {
   zero = pair j.zero k.zero;
   one = pair j.one k.one;
   plus = λ x y. pair (j.plus x.first y.first) (k.plus x.second y.second);
@@ -18,8 +18,8 @@ pair-kind j k = record {
 }
 
 -- the words of the first part, then those of the second; a width above 8 is given as 9
-abbrev pub pair-writing : {A B : Type 0} → Writing A → Writing B → Writing (Pair A B)
-pair-writing s t = record {
+abbrev pub pair_writing : {A B : Type 0} → Writing A → Writing B → Writing (Pair A B)
+pair_writing s t = record {
   code = 6;
   width = min (s.width + t.width) 9;
   words = λ v. s.words v.first ++ t.words v.second;

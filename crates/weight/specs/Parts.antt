@@ -2,22 +2,22 @@
 use Rattle.std.proofs.Common.{ap, ap₂}
 use Rattle.std.proofs.lemmas.Bool.{and_parts}
 use Rattle.weight.specs.Kinds.{Kind, Laws}
-use Rattle.weight.specs.Pair.{pair, pair-kind}
+use Rattle.weight.specs.Pair.{pair, pair_kind}
 
-pub pair-laws : {A B : Type 0} {j : Kind A} {k : Kind B} → Laws j → Laws k → Laws (pair-kind j k)
-pair-laws {j = j} {k = k} a b = record {
+pub pair_laws : {A B : Type 0} {j : Kind A} {k : Kind B} → Laws j → Laws k → Laws (pair_kind j k)
+pair_laws {j = j} {k = k} a b = record {
   plus_assoc = λ x y z. ap₂ pair (a.plus_assoc _ _ _) (b.plus_assoc _ _ _);
   plus_comm = λ x y. ap₂ pair (a.plus_comm _ _) (b.plus_comm _ _);
-  plus-zero = λ x. ap₂ pair (a.plus-zero _) (b.plus-zero _);
-  times-assoc = λ x y z. ap₂ pair (a.times-assoc _ _ _) (b.times-assoc _ _ _);
-  one-times = λ x. ap₂ pair (a.one-times _) (b.one-times _);
-  times-one = λ x. ap₂ pair (a.times-one _) (b.times-one _);
-  zero-times = λ x. ap₂ pair (a.zero-times _) (b.zero-times _);
+  plus_zero = λ x. ap₂ pair (a.plus_zero _) (b.plus_zero _);
+  times_assoc = λ x y z. ap₂ pair (a.times_assoc _ _ _) (b.times_assoc _ _ _);
+  one_times = λ x. ap₂ pair (a.one_times _) (b.one_times _);
+  times_one = λ x. ap₂ pair (a.times_one _) (b.times_one _);
+  zero_times = λ x. ap₂ pair (a.zero_times _) (b.zero_times _);
   times_zero = λ x. ap₂ pair (a.times_zero _) (b.times_zero _);
-  times-plus = λ x y z. ap₂ pair (a.times-plus _ _ _) (b.times-plus _ _ _);
+  times_plus = λ x y z. ap₂ pair (a.times_plus _ _ _) (b.times_plus _ _ _);
   plus_times = λ x y z. ap₂ pair (a.plus_times _ _ _) (b.plus_times _ _ _);
   apart = λ e. a.apart (ap (λ p. p.first) e);
-  times-comm = λ e x y.
+  times_comm = λ e x y.
       let both = and_parts j.exchanges k.exchanges e in
-      ap₂ pair (a.times-comm both.0 _ _) (b.times-comm both.1 _ _);
+      ap₂ pair (a.times_comm both.0 _ _) (b.times_comm both.1 _ _);
 }

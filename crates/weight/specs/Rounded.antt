@@ -10,11 +10,11 @@ pub record Operations (add mul : ℕ → ℕ → ℕ) : Type 0 where
   pub mul_comm : (a b : ℕ) → mul a b ≡ mul b a
   pub mul-add : (a b c : ℕ) → mul a (add b c) ≡ add (mul a b) (mul a c)
 
-pub plus-and-times : Operations ◌+◌ ◌*◌
-plus-and-times = record { add_assoc = add_assoc; add_comm = add_comm; mul_assoc = mul_assoc; mul_comm = mul_comm; mul-add = mul-add }
+pub plus_and_times : Operations ◌+◌ ◌*◌
+plus_and_times = record { add_assoc = add_assoc; add_comm = add_comm; mul_assoc = mul_assoc; mul_comm = mul_comm; mul-add = mul-add }
 
-pub min-and-plus : Operations min ◌+◌
-min-and-plus = record {
+pub min_and_plus : Operations min ◌+◌
+min_and_plus = record {
   add_assoc = λ a b c. omega arith;
   add_comm = λ a b. omega arith;
   mul_assoc = add_assoc;
@@ -28,44 +28,44 @@ module _ {W : Type 0} (of : ℕ → W) (value : W → ℕ) where
   lifted f x y = of (f (value x) (value y))
 
   pub record Rounded (add mul : ℕ → ℕ → ℕ) (zero one : W) : Type 0 where
-    pub add-of : (a b : ℕ) → of (add (value (of a)) b) ≡ of (add a b)
-    pub mul-of : (a b : ℕ) → of (mul (value (of a)) b) ≡ of (mul a b)
-    pub plus-zero : (x : W) → lifted add x zero ≡ x
-    pub times-one : (x : W) → lifted mul x one ≡ x
+    pub add_of : (a b : ℕ) → of (add (value (of a)) b) ≡ of (add a b)
+    pub mul_of : (a b : ℕ) → of (mul (value (of a)) b) ≡ of (mul a b)
+    pub plus_zero : (x : W) → lifted add x zero ≡ x
+    pub times_one : (x : W) → lifted mul x one ≡ x
     pub times_zero : (x : W) → lifted mul x zero ≡ zero
     pub apart : zero ≡ one → ⊥
 
   module _ {f : ℕ → ℕ → ℕ} (comm : (a b : ℕ) → f a b ≡ f b a) (f-of : (a b : ℕ) → of (f (value (of a)) b) ≡ of (f a b)) where
-    lifted-comm : (x y : W) → lifted f x y ≡ lifted f y x
-    lifted-comm x y = ap of (comm (value x) (value y))
+    lifted_comm : (x y : W) → lifted f x y ≡ lifted f y x
+    lifted_comm x y = ap of (comm (value x) (value y))
 
     right_of : (a b : ℕ) → of (f a (value (of b))) ≡ of (f a b)
     right_of a b = ap of (comm a (value (of b))) ∙ f-of b a ∙ ap of (comm b a)
 
-    lifted-assoc : ((a b c : ℕ) → f (f a b) c ≡ f a (f b c)) → (x y z : W) → lifted f (lifted f x y) z ≡ lifted f x (lifted f y z)
-    lifted-assoc assoc x y z = f-of _ (value z) ∙ ap of (assoc (value x) (value y) (value z)) ∙ sym (right_of (value x) _)
+    lifted_assoc : ((a b c : ℕ) → f (f a b) c ≡ f a (f b c)) → (x y z : W) → lifted f (lifted f x y) z ≡ lifted f x (lifted f y z)
+    lifted_assoc assoc x y z = f-of _ (value z) ∙ ap of (assoc (value x) (value y) (value z)) ∙ sym (right_of (value x) _)
 
-  abbrev pub rounded-kind : (add mul : ℕ → ℕ → ℕ) → W → W → Kind W
-  rounded-kind add mul zero one = record { zero = zero; one = one; plus = lifted add; times = lifted mul; exchanges = true }
+  abbrev pub rounded_kind : (add mul : ℕ → ℕ → ℕ) → W → W → Kind W
+  rounded_kind add mul zero one = record { zero = zero; one = one; plus = lifted add; times = lifted mul; exchanges = true }
 
-  pub rounded-laws : {add mul : ℕ → ℕ → ℕ} {zero one : W} → Operations add mul → Rounded add mul zero one → Laws (rounded-kind add mul zero one)
-  rounded-laws {add} {mul} {zero} {one} ops r =
-      let plus_comm = lifted-comm ops.add_comm r.add-of in
-      let times-comm = lifted-comm ops.mul_comm r.mul-of in
-      let times-plus : (x y z : W) → lifted mul x (lifted add y z) ≡ lifted add (lifted mul x y) (lifted mul x z) =
-      λ x y z. right_of ops.mul_comm r.mul-of (value x) _ ∙ ap of (ops.mul-add (value x) (value y) (value z))
-      ∙ sym (r.add-of _ _ ∙ right_of ops.add_comm r.add-of _ _) in
+  pub rounded_laws : {add mul : ℕ → ℕ → ℕ} {zero one : W} → Operations add mul → Rounded add mul zero one → Laws (rounded_kind add mul zero one)
+  rounded_laws {add} {mul} {zero} {one} ops r =
+      let plus_comm = lifted_comm ops.add_comm r.add_of in
+      let times_comm = lifted_comm ops.mul_comm r.mul_of in
+      let times_plus : (x y z : W) → lifted mul x (lifted add y z) ≡ lifted add (lifted mul x y) (lifted mul x z) =
+      λ x y z. right_of ops.mul_comm r.mul_of (value x) _ ∙ ap of (ops.mul-add (value x) (value y) (value z))
+      ∙ sym (r.add_of _ _ ∙ right_of ops.add_comm r.add_of _ _) in
       record {
-        plus_assoc = lifted-assoc ops.add_comm r.add-of ops.add_assoc;
+        plus_assoc = lifted_assoc ops.add_comm r.add_of ops.add_assoc;
         plus_comm = plus_comm;
-        plus-zero = r.plus-zero;
-        times-assoc = lifted-assoc ops.mul_comm r.mul-of ops.mul_assoc;
-        one-times = λ x. times-comm one x ∙ r.times-one x;
-        times-one = r.times-one;
-        zero-times = λ x. times-comm zero x ∙ r.times_zero x;
+        plus_zero = r.plus_zero;
+        times_assoc = lifted_assoc ops.mul_comm r.mul_of ops.mul_assoc;
+        one_times = λ x. times_comm one x ∙ r.times_one x;
+        times_one = r.times_one;
+        zero_times = λ x. times_comm zero x ∙ r.times_zero x;
         times_zero = r.times_zero;
-        times-plus = times-plus;
-        plus_times = λ x y z. times-comm (lifted add x y) z ∙ times-plus z x y ∙ ap₂ (lifted add) (times-comm z x) (times-comm z y);
+        times_plus = times_plus;
+        plus_times = λ x y z. times_comm (lifted add x y) z ∙ times_plus z x y ∙ ap₂ (lifted add) (times_comm z x) (times_comm z y);
         apart = r.apart;
-        times-comm = λ _. times-comm;
+        times_comm = λ _. times_comm;
       }

@@ -10,13 +10,13 @@ mod-mul-mod a m b =
     ap (λ x. x * b) (sym (mod-add-div' a m)) ∙ add-mul (a % m) (a / m * m) b ∙ ap (λ x. a % m * b + x) (mul_right_comm (a / m) m b) in
     sym (ap (λ x. x % m) split ∙ add-mul-mod_self_right (a % m * b) (a / m * b) m)
 
-pub cap-add-cap : (a c b : ℕ) → min (min a c + b) c ≡ min (a + b) c
-cap-add-cap a c b = omega arith
+pub cap_add_cap : (a c b : ℕ) → min (min a c + b) c ≡ min (a + b) c
+cap_add_cap a c b = omega arith
 
-pub cap-min-cap : (a c b : ℕ) → min (min (min a c) b) c ≡ min (min a b) c
-cap-min-cap a c b = omega arith
+pub cap_min_cap : (a c b : ℕ) → min (min (min a c) b) c ≡ min (min a b) c
+cap_min_cap a c b = omega arith
 
-pub cap-mul-cap : (a c b : ℕ) → min (min a c * b) c ≡ min (a * b) c
-cap-mul-cap a c zero = simp mul-zero
-cap-mul-cap a c (suc b) =
+pub cap_mul_cap : (a c b : ℕ) → min (min a c * b) c ≡ min (a * b) c
+cap_mul_cap a c zero = simp mul-zero
+cap_mul_cap a c (suc b) =
     ⊎_elim (λ h. omega (arith, mul-suc (min a c) b, mul-suc a b)) (λ h. ap (λ x. min (x * suc b) c) (min-eq_left h)) (cases_lt c a)

@@ -16,5 +16,5 @@ product k (x ∷ xs) = k.times x (product k xs)
 pub record SumLaws {W : Type 0} (k : Kind W) (A B : Type 0) : Type 0 where
   pub exchange : (xs : List A) (ys : List B) (f : A → B → W)
       → total k xs (λ x. total k ys (f x)) ≡ total k ys (λ y. total k xs (λ x. f x y))
-  pub times-total : (c : W) (xs : List A) (f : A → W) → k.times c (total k xs f) ≡ total k xs (λ x. k.times c (f x))
-  pub total-times : (c : W) (xs : List A) (f : A → W) → k.times (total k xs f) c ≡ total k xs (λ x. k.times (f x) c)
+  pub times_total : (c : W) (xs : List A) (f : A → W) → k.times c (total k xs f) ≡ total k xs (λ x. k.times c (f x))
+  pub total_times : (c : W) (xs : List A) (f : A → W) → k.times (total k xs f) c ≡ total k xs (λ x. k.times (f x) c)

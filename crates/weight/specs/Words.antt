@@ -13,19 +13,19 @@ abbrev pub WeightWord : ℕ → Type 0
 WeightWord w = (w / 2 ^ 28 ≡ 3) × (w / 2 ^ 24 % 2 ^ 4 ≡ 0)
 
 -- the weight word with a payload below 2^24
-abbrev pub weight-word : ℕ → ℕ
-weight-word payload = 0x3000_0000 + payload
+abbrev pub weight_word : ℕ → ℕ
+weight_word payload = 0x3000_0000 + payload
 
 -- each value in one word, by its payload
-abbrev pub single-word : {W : Type 0} → ℕ → (W → ℕ) → Writing W
-single-word code payload = record { code = code; width = 1; words = λ v. weight-word (payload v) ∷ [] }
+abbrev pub single_word : {W : Type 0} → ℕ → (W → ℕ) → Writing W
+single_word code payload = record { code = code; width = 1; words = λ v. weight_word (payload v) ∷ [] }
 
 -- What every written kind owes. Width 9 says that a value is too wide to be written.
 pub record WordLaws {W : Type 0} (s : Writing W) : Type 0 where
-  pub code-from : 1 ≤ s.code
-  pub code-to : s.code ≤ 15
-  pub width-from : 1 ≤ s.width
-  pub width-to : s.width ≤ 9
+  pub code_from : 1 ≤ s.code
+  pub code_to : s.code ≤ 15
+  pub width_from : 1 ≤ s.width
+  pub width_to : s.width ≤ 9
   pub count : s.width < 9 → (v : W) → length (s.words v) ≡ s.width
   pub unique : s.width < 9 → (v w : W) → s.words v ≡ s.words w → v ≡ w
   pub tagged : s.width < 9 → (v : W) → All WeightWord (s.words v)

@@ -1,5 +1,5 @@
 ghost use Rattle.std.specs.Prelude.{◌≡◌};
-ghost use Rattle.weight.specs.Mask.{mask-kind, mask-number, mask-writing};
+ghost use Rattle.weight.specs.Mask.{mask_kind, mask_number, mask_writing};
 ghost use Rattle.std.proofs.Common.{rules};
 
 use crate::kind::Weight;
@@ -14,14 +14,14 @@ pub struct Mask {
 
 impl Mask {
     pub fn number(self) -> u32
-        ensures { result ≡ mask-number self }
+        ensures { result ≡ mask_number self }
     {
         u32::from(self.set)
     }
 }
 
 impl Weight for Mask {
-    ghost kind = { mask-kind };
+    ghost kind = { mask_kind };
 
     ghost laws = { Prim.search rules };
 
@@ -51,7 +51,7 @@ impl Weight for Mask {
 }
 
 impl Written for Mask {
-    ghost writing = { mask-writing };
+    ghost writing = { mask_writing };
 
     ghost words = { Prim.search rules };
 

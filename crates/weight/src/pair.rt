@@ -1,6 +1,6 @@
-ghost use Rattle.weight.specs.Pair.{pair-kind, pair-writing};
-ghost use Rattle.weight.specs.Parts.{pair-laws};
-ghost use Rattle.weight.specs.SideBySide.{pair-words};
+ghost use Rattle.weight.specs.Pair.{pair_kind, pair_writing};
+ghost use Rattle.weight.specs.Parts.{pair_laws};
+ghost use Rattle.weight.specs.SideBySide.{pair_words};
 
 use crate::kind::Weight;
 use crate::written::{TOO_WIDE, Written};
@@ -13,9 +13,9 @@ pub struct Pair<A, B> {
 }
 
 impl<A: Weight, B: Weight> Weight for Pair<A, B> {
-    ghost kind = { pair-kind A.Weight.kind B.Weight.kind };
+    ghost kind = { pair_kind A.Weight.kind B.Weight.kind };
 
-    ghost laws = { pair-laws A.Weight.laws B.Weight.laws };
+    ghost laws = { pair_laws A.Weight.laws B.Weight.laws };
 
     fn zero() -> Pair<A, B> {
         Pair {
@@ -51,9 +51,9 @@ impl<A: Weight, B: Weight> Weight for Pair<A, B> {
 }
 
 impl<A: Written, B: Written> Written for Pair<A, B> {
-    ghost writing = { pair-writing A.Written.writing B.Written.writing };
+    ghost writing = { pair_writing A.Written.writing B.Written.writing };
 
-    ghost words = { pair-words A.Written.words B.Written.words };
+    ghost words = { pair_words A.Written.words B.Written.words };
 
     fn code() -> u32 {
         6

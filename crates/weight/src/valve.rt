@@ -1,6 +1,6 @@
 ghost use Rattle.std.specs.Prelude.{◌≡◌};
-ghost use Rattle.weight.specs.Valve.{valve, valve-number, valve-kind, valve-writing, Products};
-ghost use Rattle.weight.specs.Routes.{valve-laws};
+ghost use Rattle.weight.specs.Valve.{valve, valve_number, valve_kind, valve_writing, Products};
+ghost use Rattle.weight.specs.Routes.{valve_laws};
 ghost use Rattle.std.proofs.Common.{rules};
 
 use crate::kind::Weight;
@@ -37,7 +37,7 @@ impl Valve {
     }
 
     pub fn number(self) -> u32
-        ensures { result ≡ valve-number self }
+        ensures { result ≡ valve_number self }
     {
         u32::from(self.bit0)
             + 2 * u32::from(self.bit1)
@@ -49,16 +49,16 @@ impl Valve {
 /// The product of two valves, from a table of all products.
 fn look_up(products: &[u8], a: Valve, b: Valve) -> Valve
     requires { Products products.now }
-    ensures { result ≡ valve-kind.times a b }
+    ensures { result ≡ valve_kind.times a b }
 {
     let product = products[(COUNT * a.number() + b.number()) as usize];
     Valve::new(u32::from(product))
 }
 
 impl Weight for Valve {
-    ghost kind = { valve-kind };
+    ghost kind = { valve_kind };
 
-    ghost laws = { valve-laws };
+    ghost laws = { valve_laws };
 
     fn zero() -> Valve {
         Valve::new(0)
@@ -87,7 +87,7 @@ impl Weight for Valve {
 }
 
 impl Written for Valve {
-    ghost writing = { valve-writing };
+    ghost writing = { valve_writing };
 
     ghost words = { Prim.search rules };
 

@@ -6,64 +6,64 @@ use Rattle.picture.specs.Quadrants.{digit}
 use Rattle.picture.specs.declared.body.Arc.{Arc}
 use Rattle.picture.specs.declared.quadrant.Quadrant.{Quadrant}
 use Rattle.picture.specs.declared.quadrant.Quadrant.TheVariants.{UpperLeft, UpperRight, LowerLeft, LowerRight}
-use Rattle.words.specs.Format.{head-word, arc-word}
-use Rattle.words.specs.Layout.{bits, Head-layout, Arc-layout}
+use Rattle.words.specs.Format.{head_word, arc_word}
+use Rattle.words.specs.Layout.{bits, HeadLayout, ArcLayout}
 
-digit-below : (q : Quadrant) → digit q < 4
-digit-below UpperLeft = omega arith
-digit-below UpperRight = omega arith
-digit-below LowerLeft = omega arith
-digit-below LowerRight = omega arith
+digit_below : (q : Quadrant) → digit q < 4
+digit_below UpperLeft = omega arith
+digit_below UpperRight = omega arith
+digit_below LowerLeft = omega arith
+digit_below LowerRight = omega arith
 
-digit-one : (p q : Quadrant) → digit p ≡ digit q → p ≡ q
-digit-one UpperLeft UpperLeft e = refl
-digit-one UpperLeft UpperRight e = absurd (omega arith)
-digit-one UpperLeft LowerLeft e = absurd (omega arith)
-digit-one UpperLeft LowerRight e = absurd (omega arith)
-digit-one UpperRight UpperLeft e = absurd (omega arith)
-digit-one UpperRight UpperRight e = refl
-digit-one UpperRight LowerLeft e = absurd (omega arith)
-digit-one UpperRight LowerRight e = absurd (omega arith)
-digit-one LowerLeft UpperLeft e = absurd (omega arith)
-digit-one LowerLeft UpperRight e = absurd (omega arith)
-digit-one LowerLeft LowerLeft e = refl
-digit-one LowerLeft LowerRight e = absurd (omega arith)
-digit-one LowerRight UpperLeft e = absurd (omega arith)
-digit-one LowerRight UpperRight e = absurd (omega arith)
-digit-one LowerRight LowerLeft e = absurd (omega arith)
-digit-one LowerRight LowerRight e = refl
+digit_one : (p q : Quadrant) → digit p ≡ digit q → p ≡ q
+digit_one UpperLeft UpperLeft e = refl
+digit_one UpperLeft UpperRight e = absurd (omega arith)
+digit_one UpperLeft LowerLeft e = absurd (omega arith)
+digit_one UpperLeft LowerRight e = absurd (omega arith)
+digit_one UpperRight UpperLeft e = absurd (omega arith)
+digit_one UpperRight UpperRight e = refl
+digit_one UpperRight LowerLeft e = absurd (omega arith)
+digit_one UpperRight LowerRight e = absurd (omega arith)
+digit_one LowerLeft UpperLeft e = absurd (omega arith)
+digit_one LowerLeft UpperRight e = absurd (omega arith)
+digit_one LowerLeft LowerLeft e = refl
+digit_one LowerLeft LowerRight e = absurd (omega arith)
+digit_one LowerRight UpperLeft e = absurd (omega arith)
+digit_one LowerRight UpperRight e = absurd (omega arith)
+digit_one LowerRight LowerLeft e = absurd (omega arith)
+digit_one LowerRight LowerRight e = refl
 
-fields-one : (d f t d' f' t' : ℕ) → f < 64 → t < 64 → f' < 64 → t' < 64
+fields_one : (d f t d' f' t' : ℕ) → f < 64 → t < 64 → f' < 64 → t' < 64
     → 0x2000_0000 + d * 0x400_0000 + f * 0x100 + t ≡ 0x2000_0000 + d' * 0x400_0000 + f' * 0x100 + t' → (d ≡ d') × (f ≡ f') × (t ≡ t')
-fields-one d f t d' f' t' h k h' k' e = (omega arith, omega arith, omega arith)
+fields_one d f t d' f' t' h k h' k' e = (omega arith, omega arith, omega arith)
 
 -- an arc word is the word of one arc
-pub arc-one : (n : ℕ) (a b : Arc) → n ≤ 64 → Within n a → Within n b → arc-word a ≡ arc-word b → a ≡ b
-arc-one n a b few h k e =
-    let same = fields-one (digit a.quadrant) a.from a.to (digit b.quadrant) b.from b.to (omega (arith, h.0)) (omega (arith, h.1)) (omega (arith, k.0)) (omega (arith, k.1)) e in
-    let q = digit-one a.quadrant b.quadrant same.0 in
+pub arc_one : (n : ℕ) (a b : Arc) → n ≤ 64 → Within n a → Within n b → arc_word a ≡ arc_word b → a ≡ b
+arc_one n a b few h k e =
+    let same = fields_one (digit a.quadrant) a.from a.to (digit b.quadrant) b.from b.to (omega (arith, h.0)) (omega (arith, h.1)) (omega (arith, k.0)) (omega (arith, k.1)) e in
+    let q = digit_one a.quadrant b.quadrant same.0 in
     λ i. record { from = same.1 i; to = same.2 i; quadrant = q i }
 
 -- a head word names one pair of counts
-pub head-one : {W : Type 0} (s : Writing W) (n m n' m' : ℕ) → m ≤ 512 → m' ≤ 512 → head-word s n m ≡ head-word s n' m' → (n ≡ n') × (m ≡ m')
-head-one s n m n' m' h k e = (omega arith, omega arith)
+pub head_one : {W : Type 0} (s : Writing W) (n m n' m' : ℕ) → m ≤ 512 → m' ≤ 512 → head_word s n m ≡ head_word s n' m' → (n ≡ n') × (m ≡ m')
+head_one s n m n' m' h k e = (omega arith, omega arith)
 
-pub head-layout : {W : Type 0} (s : Writing W) → s.code ≤ 15 → s.width ≤ 9 → Head-layout s
-head-layout s hc hw n m w hn hm h = (
+pub head_layout : {W : Type 0} (s : Writing W) → s.code ≤ 15 → s.width ≤ 9 → HeadLayout s
+head_layout s hc hw n m w hn hm h = (
   (λ e. record { tag = omega arith; code = omega arith; width = omega arith; spare = omega arith; states = omega arith; arcs = omega arith }),
   λ b. omega arith,
 )
 
-arc-fields : (d f t w : ℕ) → d < 4 → f < 64 → t < 64 → w ≡ 0x2000_0000 + d * 0x400_0000 + f * 0x100 + t → (bits 28 4 w ≡ 2) × (bits 26 2 w ≡ d) × (bits 16 10 w ≡ 0) × (bits 8 8 w ≡ f) × (bits 0 8 w ≡ t)
-arc-fields d f t w hd hf ht e = (omega arith, omega arith, omega arith, omega arith, omega arith)
+arc_fields : (d f t w : ℕ) → d < 4 → f < 64 → t < 64 → w ≡ 0x2000_0000 + d * 0x400_0000 + f * 0x100 + t → (bits 28 4 w ≡ 2) × (bits 26 2 w ≡ d) × (bits 16 10 w ≡ 0) × (bits 8 8 w ≡ f) × (bits 0 8 w ≡ t)
+arc_fields d f t w hd hf ht e = (omega arith, omega arith, omega arith, omega arith, omega arith)
 
-arc-number : (d f t w : ℕ) → w < 2 ^ 32 → bits 28 4 w ≡ 2 → bits 26 2 w ≡ d → bits 16 10 w ≡ 0 → bits 8 8 w ≡ f → bits 0 8 w ≡ t → w ≡ 0x2000_0000 + d * 0x400_0000 + f * 0x100 + t
-arc-number d f t w h a b s x y = omega arith
+arc_number : (d f t w : ℕ) → w < 2 ^ 32 → bits 28 4 w ≡ 2 → bits 26 2 w ≡ d → bits 16 10 w ≡ 0 → bits 8 8 w ≡ f → bits 0 8 w ≡ t → w ≡ 0x2000_0000 + d * 0x400_0000 + f * 0x100 + t
+arc_number d f t w h a b s x y = omega arith
 
-pub arc-layout : Arc-layout
-arc-layout n a w few ends h = (
+pub arc_layout : ArcLayout
+arc_layout n a w few ends h = (
   (λ e.
-      let fs = arc-fields (digit a.quadrant) a.from a.to w (digit-below a.quadrant) (omega (arith, ends.0)) (omega (arith, ends.1)) e in
+      let fs = arc_fields (digit a.quadrant) a.from a.to w (digit_below a.quadrant) (omega (arith, ends.0)) (omega (arith, ends.1)) e in
       record { tag = fs.0; quadrant = fs.1; spare = fs.2; from = fs.3; to = fs.4 }),
-  λ b. arc-number (digit a.quadrant) a.from a.to w h b.tag b.quadrant b.spare b.from b.to,
+  λ b. arc_number (digit a.quadrant) a.from a.to w h b.tag b.quadrant b.spare b.from b.to,
 )

@@ -1,8 +1,8 @@
 -- Why words are refused, and why a body is not written.
 use Rattle.std.specs.Prelude.{◌≡◌, ℕ, ◌<◌, ◌≤◌, List, ◌∷◌, ◌++◌, length, Some, None, Option}
 use Rattle.weight.specs.Words.{Writing}
-use Rattle.words.specs.Format.{head-word, size}
-use Rattle.words.specs.Wrong.{state-pieces, arc-pieces, FirstWrong}
+use Rattle.words.specs.Format.{head_word, size}
+use Rattle.words.specs.Wrong.{state_pieces, arc_pieces, FirstWrong}
 use Rattle.words.specs.declared.fault.Fault.{Fault}
 use Rattle.words.specs.declared.fault.Fault.TheVariants.{Width, Head, Count, Piece}
 use Rattle.words.specs.declared.fault.PieceFault.TheVariants.{WrongArc, WrongWeight}
@@ -10,21 +10,21 @@ use Rattle.words.specs.declared.fault.WriteFault.{WriteFault}
 use Rattle.words.specs.declared.fault.WriteFault.TheVariants.{TooWide, TooShort}
 
 -- of each fault the number, and the index that it carries
-abbrev pub number-and-index : Fault → ℕ × Option ℕ
-number-and-index Width = (3, None)
-number-and-index Head = (4, None)
-number-and-index Count = (5, None)
-number-and-index (Piece (WrongArc f)) = (6, Some f.word.index)
-number-and-index (Piece (WrongWeight f)) = (7, Some f.word.index)
+abbrev pub number_and_index : Fault → ℕ × Option ℕ
+number_and_index Width = (3, None)
+number_and_index Head = (4, None)
+number_and_index Count = (5, None)
+number_and_index (Piece (WrongArc f)) = (6, Some f.word.index)
+number_and_index (Piece (WrongWeight f)) = (7, Some f.word.index)
 
 -- a head within the limits, and what stands behind it
 pub record Headed {W : Type 0} (s : Writing W) (given : List ℕ) : Type 0 where
   pub states : ℕ
   pub arcs : ℕ
   pub behind : List ℕ
-  pub few-states : states ≤ 64
-  pub few-arcs : arcs ≤ 512
-  pub splits : given ≡ head-word s states arcs ∷ behind
+  pub few_states : states ≤ 64
+  pub few_arcs : arcs ≤ 512
+  pub splits : given ≡ head_word s states arcs ∷ behind
 
 -- the number of words is the one that the head names
 abbrev pub Counted : {W : Type 0} {s : Writing W} {given : List ℕ} → Headed s given → Type 0
@@ -36,12 +36,12 @@ Refused s given Width = s.width ≡ 9
 Refused s given Head = (s.width < 9) × (Headed s given → ⊥)
 Refused s given Count = (s.width < 9) × ((h : Headed s given) × (Counted h → ⊥))
 Refused s given (Piece f) =
-    (s.width < 9) × ((h : Headed s given) × Counted h × FirstWrong s h.states (state-pieces h.states ++ arc-pieces h.arcs) h.behind 1 f)
+    (s.width < 9) × ((h : Headed s given) × Counted h × FirstWrong s h.states (state_pieces h.states ++ arc_pieces h.arcs) h.behind 1 f)
 
 -- of each fault of writing the number
-abbrev pub write-number : WriteFault → ℕ
-write-number TooWide = 3
-write-number TooShort = 16
+abbrev pub write_number : WriteFault → ℕ
+write_number TooWide = 3
+write_number TooShort = 16
 
 -- the fault of writing so many words into so many
 abbrev pub Unwritten : {W : Type 0} → Writing W → (words room : ℕ) → WriteFault → Type 0

@@ -7,13 +7,13 @@ use Rattle.words.specs.Faults.{Refused}
 use Rattle.words.specs.declared.fault.Fault.{Fault}
 
 -- equal words mean equal bodies
-abbrev pub One-body : {W : Type 0} → Writing W → Type 0
-One-body {W} s = (a b : Body W) (given : List ℕ) → SpellsBody s a given → SpellsBody s b given → a ≡ b
+abbrev pub OneBody : {W : Type 0} → Writing W → Type 0
+OneBody {W} s = (a b : Body W) (given : List ℕ) → SpellsBody s a given → SpellsBody s b given → a ≡ b
 
 -- words with a fault are those of no body
-abbrev pub No-body : {W : Type 0} → Writing W → Type 0
-No-body {W} s = (given : List ℕ) (f : Fault) → Refused s given f → (b : Body W) → SpellsBody s b given → ⊥
+abbrev pub NoBody : {W : Type 0} → Writing W → Type 0
+NoBody {W} s = (given : List ℕ) (f : Fault) → Refused s given f → (b : Body W) → SpellsBody s b given → ⊥
 
 -- words have one fault at most
-abbrev pub One-fault : {W : Type 0} → Writing W → Type 0
-One-fault s = (given : List ℕ) (e f : Fault) → Refused s given e → Refused s given f → e ≡ f
+abbrev pub OneFault : {W : Type 0} → Writing W → Type 0
+OneFault s = (given : List ℕ) (e f : Fault) → Refused s given e → Refused s given f → e ≡ f

@@ -4,7 +4,7 @@ use Rattle.weight.specs.Words.{Writing}
 use Rattle.picture.specs.Bodies.{Within}
 use Rattle.picture.specs.Quadrants.{digit}
 use Rattle.picture.specs.declared.body.Arc.{Arc}
-use Rattle.words.specs.Format.{head-word, arc-word}
+use Rattle.words.specs.Format.{head_word, arc_word}
 
 -- the `count` bits of a word from bit `low` on
 abbrev pub bits : ℕ → ℕ → ℕ → ℕ
@@ -28,9 +28,9 @@ pub record ArcBits (a : Arc) (w : ℕ) : Type 0 where
   pub to : bits 0 8 w ≡ a.to
 
 -- a word of 32 bits is the head word of counts within the limits exactly if its fields are theirs
-abbrev pub Head-layout : {W : Type 0} → Writing W → Type 0
-Head-layout s = (n m w : ℕ) → n ≤ 64 → m ≤ 512 → w < 2 ^ 32 → (w ≡ head-word s n m → HeadBits s n m w) × (HeadBits s n m w → w ≡ head-word s n m)
+abbrev pub HeadLayout : {W : Type 0} → Writing W → Type 0
+HeadLayout s = (n m w : ℕ) → n ≤ 64 → m ≤ 512 → w < 2 ^ 32 → (w ≡ head_word s n m → HeadBits s n m w) × (HeadBits s n m w → w ≡ head_word s n m)
 
 -- a word of 32 bits is the word of an arc between states exactly if its fields are the arc's
-abbrev pub Arc-layout : Type 0
-Arc-layout = (n : ℕ) (a : Arc) (w : ℕ) → n ≤ 64 → Within n a → w < 2 ^ 32 → (w ≡ arc-word a → ArcBits a w) × (ArcBits a w → w ≡ arc-word a)
+abbrev pub ArcLayout : Type 0
+ArcLayout = (n : ℕ) (a : Arc) (w : ℕ) → n ≤ 64 → Within n a → w < 2 ^ 32 → (w ≡ arc_word a → ArcBits a w) × (ArcBits a w → w ≡ arc_word a)

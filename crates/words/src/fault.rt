@@ -1,5 +1,5 @@
 ghost use Rattle.std.specs.Prelude.{◌≡◌};
-ghost use Rattle.words.specs.Faults.{number-and-index, write-number};
+ghost use Rattle.words.specs.Faults.{number_and_index, write_number};
 ghost use Rattle.words.specs.declared.fault.Fault.TheVariants.{Piece};
 ghost use Rattle.words.specs.declared.fault.PieceFault.TheVariants.{WrongArc, WrongWeight};
 ghost use Rattle.words.specs.declared.fault.TripFault.TheVariants.{Read, Write};
@@ -103,7 +103,7 @@ impl From<WriteFault> for TripFault {
 impl Fault {
     /// The number of the fault.
     pub fn number(self) -> u8
-        ensures { result ≡ (number-and-index self).0 }
+        ensures { result ≡ (number_and_index self).0 }
     {
         match self {
             Fault::Width => 3,
@@ -116,7 +116,7 @@ impl Fault {
 
     /// The index of the wrong word, where one word is wrong.
     pub fn index(self) -> Option<usize>
-        ensures { result ≡ (number-and-index self).1 }
+        ensures { result ≡ (number_and_index self).1 }
     {
         match self {
             Fault::Piece(PieceFault::WrongArc(f)) => Some(f.word.index),
@@ -129,7 +129,7 @@ impl Fault {
 impl WriteFault {
     /// The number of the fault.
     pub fn number(self) -> u8
-        ensures { result ≡ write-number self }
+        ensures { result ≡ write_number self }
     {
         match self {
             WriteFault::TooWide => 3,

@@ -1,9 +1,9 @@
 ghost use Rattle.std.specs.Prelude.{◌≡◌, ◌<◌, ◌≤◌, [], ◌∷◌, ◌++◌, length, MatchResult};
 ghost use Rattle.std.specs.List.{zip, flat_map, AllByRecursion as All};
 ghost use Rattle.picture.specs.Bodies.{Within};
-ghost use Rattle.words.specs.Format.{arc-word, state-words, edge-words};
-ghost use Rattle.words.specs.Inner.{Took, Fits, states-in, ReadBody};
-ghost use Rattle.words.specs.Wrong.{state-pieces, arc-pieces, NoWeight, NoArc, FirstWrong};
+ghost use Rattle.words.specs.Format.{arc_word, state_words, edge_words};
+ghost use Rattle.words.specs.Inner.{Took, Fits, states_in, ReadBody};
+ghost use Rattle.words.specs.Wrong.{state_pieces, arc_pieces, NoWeight, NoArc, FirstWrong};
 ghost use Rattle.words.specs.declared.fault.PieceFault.TheVariants.{WrongWeight};
 
 use crate::arc::read_arc;
@@ -39,7 +39,7 @@ impl Reader<'_> {
     /// The next arc, with ends below n.
     fn arc(&mut self, n: u8) -> Result<Arc, ArcFault>
         requires { Fits self.old }
-        ensures { MatchResult result (λ a. Within n a × Took (arc-word a ∷ []) self.old self.new) (λ f. (f.word.index ≡ self.old.position) × NoArc n self.old.rest.now) }
+        ensures { MatchResult result (λ a. Within n a × Took (arc_word a ∷ []) self.old self.new) (λ f. (f.word.index ≡ self.old.position) × NoArc n self.old.rest.now) }
     {
         let index = self.position;
         let word = self.word()?;
@@ -81,7 +81,7 @@ impl Reader<'_> {
         requires few { n ≤ 64 }
         requires room { length weights.old ≡ 640 }
         requires fits { Fits self.old }
-        ensures { MatchResult result (λ _. Took (flat_map (state-words writing) (states-in n weights.new)) self.old self.new) (λ f. FirstWrong {W = W} writing n (state-pieces n) self.old.rest.now self.old.position (WrongWeight f)) }
+        ensures { MatchResult result (λ _. Took (flat_map (state_words writing) (states_in n weights.new)) self.old self.new) (λ f. FirstWrong {W = W} writing n (state_pieces n) self.old.rest.now self.old.position (WrongWeight f)) }
     {
         for q in 0..n {
             weights[q] = self.weight()?;
@@ -100,7 +100,7 @@ impl Reader<'_> {
         requires narrow { writing.width < 9 }
         requires room { length arcs.old ≡ length weights.old }
         requires fits { Fits self.old }
-        ensures { MatchResult result (λ _. All (Within n) arcs.new × Took (flat_map (edge-words writing) (zip arcs.new weights.new)) self.old self.new) (FirstWrong {W = W} writing n (arc-pieces (length weights.old)) self.old.rest.now self.old.position) }
+        ensures { MatchResult result (λ _. All (Within n) arcs.new × Took (flat_map (edge_words writing) (zip arcs.new weights.new)) self.old self.new) (FirstWrong {W = W} writing n (arc_pieces (length weights.old)) self.old.rest.now self.old.position) }
     {
         for k in 0..arcs.len() {
             arcs[k] = self.arc(n)?;
@@ -120,7 +120,7 @@ impl Reader<'_> {
         requires few_arcs { counts.arcs ≤ 512 }
         requires room { length weights.old ≡ 640 }
         requires fits { Fits self.old }
-        ensures { MatchResult result (ReadBody writing counts weights.new self.old self.new) (FirstWrong {W = W} writing counts.states (state-pieces counts.states ++ arc-pieces counts.arcs) self.old.rest.now self.old.position) }
+        ensures { MatchResult result (ReadBody writing counts weights.new self.old self.new) (FirstWrong {W = W} writing counts.states (state_pieces counts.states ++ arc_pieces counts.arcs) self.old.rest.now self.old.position) }
     {
         self.states(counts.states as usize, weights)?;
         let m = counts.arcs as usize;

@@ -1,8 +1,8 @@
 ghost use Rattle.std.specs.Prelude.{◌≡◌, length};
 ghost use Rattle.picture.specs.Stored.{stored, Kept};
 ghost use Rattle.words.specs.Calls.{HeldUnlessUnread, Rewritten, Reread};
-ghost use Rattle.words.specs.Layout.{Head-layout, Arc-layout};
-ghost use Rattle.words.specs.Laws.{One-body, No-body, One-fault};
+ghost use Rattle.words.specs.Layout.{HeadLayout, ArcLayout};
+ghost use Rattle.words.specs.Laws.{OneBody, NoBody, OneFault};
 
 use crate::fault::{TripFault, WriteFault};
 use crate::reading::read;
@@ -46,9 +46,9 @@ pub fn reread<W: Written>(
 
 /// Equal words mean equal bodies, words with a fault are those of no body and have one fault, and words have their fields at their bits.
 pub fn words_are_one<W: Written>()
-    ensures body { One-body {W = W} writing }
-    ensures none { No-body {W = W} writing }
-    ensures fault { One-fault {W = W} writing }
-    ensures heads { Head-layout {W = W} writing }
-    ensures arcs { Arc-layout }
+    ensures body { OneBody {W = W} writing }
+    ensures none { NoBody {W = W} writing }
+    ensures fault { OneFault {W = W} writing }
+    ensures heads { HeadLayout {W = W} writing }
+    ensures arcs { ArcLayout }
 {}

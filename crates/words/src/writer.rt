@@ -2,8 +2,8 @@ ghost use Rattle.std.specs.Prelude.{◌≡◌, ◌+◌, ◌*◌, ◌<◌, ◌≤
 ghost use Rattle.std.specs.List.{zip, flat_map};
 ghost use Rattle.picture.specs.Stored.{stored, Kept};
 ghost use Rattle.words.specs.Calls.{Wrote};
-ghost use Rattle.words.specs.Format.{state-words, edge-words, words_of, Limited};
-ghost use Rattle.words.specs.Inner.{states-in};
+ghost use Rattle.words.specs.Format.{state_words, edge_words, words_of, Limited};
+ghost use Rattle.words.specs.Inner.{states_in};
 
 use crate::arc::arc_word;
 use crate::fault::WriteFault;
@@ -29,7 +29,7 @@ fn write_states<W: Written>(weights: &[W], n: usize, out: &mut [u32])
     requires few { n ≤ 64 }
     requires room { length weights.now ≡ 640 }
     requires long { length out.old ≡ n * (2 * writing.width) }
-    ensures { out.new ≡ flat_map (state-words writing) (states-in n weights.now) }
+    ensures { out.new ≡ flat_map (state_words writing) (states_in n weights.now) }
 {
     let c = W::width();
     let mut at = 0;
@@ -45,7 +45,7 @@ fn write_arcs<W: Written>(arcs: &[Arc], weights: &[W], out: &mut [u32])
     requires narrow { writing.width < 9 }
     requires room { length arcs.now ≡ length weights.now }
     requires long { length out.old ≡ length arcs.now * (1 + writing.width) }
-    ensures { out.new ≡ flat_map (edge-words writing) (zip arcs.now weights.now) }
+    ensures { out.new ≡ flat_map (edge_words writing) (zip arcs.now weights.now) }
 {
     let c = W::width();
     let mut at = 0;

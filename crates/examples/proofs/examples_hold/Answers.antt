@@ -1,19 +1,19 @@
 use Rattle.std.proofs.Common.{refl}
-use Rattle.weight.specs.Same.{same-height, same-ink}
+use Rattle.weight.specs.Same.{same_height, same_ink}
 use Rattle.examples.proofs.examples_hold.Goals as goal
 
 pub returns : goal.returns
 returns c = record {
-  height-stops = same-height refl;
-  ink-sum-stops = same-ink refl;
-  ink-product-stops = same-ink refl;
-  valve-there = refl;
-  valve-back = refl;
-  ramp-rises = refl;
-  ramp-mirrored = refl;
-  ramp-squared = refl;
-  ramp-turned = refl;
-  flat-pieced-whole = refl;
-  flat-pieced = refl;
-  flat-composed = refl;
+  height_stops = same_height refl;
+  ink_sum_stops = same_ink refl;
+  ink_product_stops = same_ink refl;
+  valve_there = refl;
+  valve_back = refl;
+  ramp_rises = refl;
+  ramp_mirrored = refl;
+  ramp_squared = refl;
+  ramp_turned = refl;
+  flat_pieced_whole = refl;
+  flat_pieced = refl;
+  flat_composed = refl;
 }

@@ -10,8 +10,8 @@ use Rattle.recipe.specs.Trees.{Cat, sum, product, part, closed, line, script, Pr
 abbrev pub name_of : ℕ → Option Place
 name_of b = cond (nat_le 65 b) (place (b - 65)) None
 
-abbrev pub digitOf : ℕ → Option Quadrant
-digitOf b = cond (nat_le 48 b) (quadrant (b - 48)) None
+abbrev pub digit_of : ℕ → Option Quadrant
+digit_of b = cond (nat_le 48 b) (quadrant (b - 48)) None
 
 abbrev pub whether : {X Y : Type 0} → Option X → (X → Y) → Y → Y
 whether (Some x) f y = f x
@@ -19,12 +19,12 @@ whether None f y = y
 
 -- what stands around a sum that is being read
 pub data Around : Type 0 where
-  in-line : Tree script → Place → Around
-  in-round : List Prefix → Option (Tree product) → Option (Tree sum) → Around → Around
-  in-first : List Prefix → Option (Tree product) → Option (Tree sum) → Around → Around
-  in-second : Tree (closed 44) → List Prefix → Option (Tree product) → Option (Tree sum) → Around → Around
-  in-third : Tree (closed 44) → Tree (closed 44) → List Prefix → Option (Tree product) → Option (Tree sum) → Around → Around
-  in-fourth : Tree (closed 44) → Tree (closed 44) → Tree (closed 44) → List Prefix → Option (Tree product) → Option (Tree sum) → Around → Around
+  in_line : Tree script → Place → Around
+  in_round : List Prefix → Option (Tree product) → Option (Tree sum) → Around → Around
+  in_first : List Prefix → Option (Tree product) → Option (Tree sum) → Around → Around
+  in_second : Tree (closed 44) → List Prefix → Option (Tree product) → Option (Tree sum) → Around → Around
+  in_third : Tree (closed 44) → Tree (closed 44) → List Prefix → Option (Tree product) → Option (Tree sum) → Around → Around
+  in_fourth : Tree (closed 44) → Tree (closed 44) → Tree (closed 44) → List Prefix → Option (Tree product) → Option (Tree sum) → Around → Around
 
 pub data State : Type 0 where
   begin : Tree script → State
@@ -47,33 +47,33 @@ wrap [] p = p
 wrap (o ∷ os) p = wrap os (prefixed o p)
 
 abbrev pub closer : Around → ℕ
-closer (in-line s k) = 10
-closer (in-round o m s c) = 41
-closer (in-first o m s c) = 44
-closer (in-second x o m s c) = 44
-closer (in-third x y o m s c) = 44
-closer (in-fourth x y z o m s c) = 93
+closer (in_line s k) = 10
+closer (in_round o m s c) = 41
+closer (in_first o m s c) = 44
+closer (in_second x o m s c) = 44
+closer (in_third x y o m s c) = 44
+closer (in_fourth x y z o m s c) = 93
 
 -- the state once the sum inside is closed
 abbrev pub shut : Around → Tree sum → State
-shut (in-line s k) t = begin (next s (row k (closes 10 t)))
-shut (in-round o m s c) t = done (mul m (wrap o (round (closes 41 t)))) s c
-shut (in-first o m s c) t = want [] None None (in-second (closes 44 t) o m s c)
-shut (in-second x o m s c) t = want [] None None (in-third x (closes 44 t) o m s c)
-shut (in-third x y o m s c) t = want [] None None (in-fourth x y (closes 44 t) o m s c)
-shut (in-fourth x y z o m s c) t = done (mul m (wrap o (pieces x y z (closes 93 t)))) s c
+shut (in_line s k) t = begin (next s (row k (closes 10 t)))
+shut (in_round o m s c) t = done (mul m (wrap o (round (closes 41 t)))) s c
+shut (in_first o m s c) t = want [] None None (in_second (closes 44 t) o m s c)
+shut (in_second x o m s c) t = want [] None None (in_third x (closes 44 t) o m s c)
+shut (in_third x y o m s c) t = want [] None None (in_fourth x y (closes 44 t) o m s c)
+shut (in_fourth x y z o m s c) t = done (mul m (wrap o (pieces x y z (closes 93 t)))) s c
 
 abbrev pub delta : State → ℕ → State
 delta (begin s) b = whether (name_of b) (named s) dead
-delta (named s k) b = cond (b == 61) (want [] None None (in-line s k)) dead
+delta (named s k) b = cond (b == 61) (want [] None None (in_line s k)) dead
 delta (want o m s c) b =
     whether (name_of b) (λ k. done (mul m (wrap o (name k))) s c)
     (cond (b == 64) (want (turn ∷ o) m s c)
     (cond (b == 124) (want (mirror ∷ o) m s c)
     (cond (b == 94) (zooming o m s c)
-    (cond (b == 40) (want [] None None (in-round o m s c))
-    (cond (b == 91) (want [] None None (in-first o m s c)) dead)))))
-delta (zooming o m s c) b = whether (digitOf b) (λ d. want (zoom d ∷ o) m s c) dead
+    (cond (b == 40) (want [] None None (in_round o m s c))
+    (cond (b == 91) (want [] None None (in_first o m s c)) dead)))))
+delta (zooming o m s c) b = whether (digit_of b) (λ d. want (zoom d ∷ o) m s c) dead
 delta (done p s c) b =
     cond (b == 42) (want [] (Some p) s c)
     (cond (b == 43) (want [] None (Some (join s p)) c)
@@ -91,9 +91,9 @@ Blocked σ (b ∷ bs) = delta σ b ≡ dead
 
 -- the states in which a text of category c can begin
 pub data Opens : Cat → State → Type 0 where
-  o-part : {o : List Prefix} {m : Option (Tree product)} {s : Option (Tree sum)} {c : Around} → Opens part (want o m s c)
-  o-product : {s : Option (Tree sum)} {c : Around} → Opens product (want [] None s c)
-  o-sum : {c : Around} → Opens sum (want [] None None c)
-  o-closed : {c : Around} → Opens (closed (closer c)) (want [] None None c)
-  o-line : {s : Tree script} → Opens line (begin s)
-  o-script : Opens script (begin blank)
+  o_part : {o : List Prefix} {m : Option (Tree product)} {s : Option (Tree sum)} {c : Around} → Opens part (want o m s c)
+  o_product : {s : Option (Tree sum)} {c : Around} → Opens product (want [] None s c)
+  o_sum : {c : Around} → Opens sum (want [] None None c)
+  o_closed : {c : Around} → Opens (closed (closer c)) (want [] None None c)
+  o_line : {s : Tree script} → Opens line (begin s)
+  o_script : Opens script (begin blank)

@@ -13,8 +13,8 @@ use Rattle.recipe.specs.declared.reader.Reader.{Reader}
 use Rattle.recipe.specs.declared.step.Step.{Step}
 use Rattle.recipe.specs.Trees.{Prefix, spelled, Cat, sum, product, part, closed, line, script, Tree, text}
 use Rattle.recipe.specs.Steps.{step_of, steps}
-use Rattle.recipe.specs.Limits.{max-bytes, max-level, max-waiting, Byte, counted, Within}
-use Rattle.recipe.specs.Devices.Machine.{Around, zooming, State, run, Blocked, Opens, name_of, digitOf}
+use Rattle.recipe.specs.Limits.{max_bytes, max_level, max_waiting, Byte, counted, Within}
+use Rattle.recipe.specs.Devices.Machine.{Around, zooming, State, run, Blocked, Opens, name_of, digit_of}
 
 -- the first byte of a list, if it has one
 abbrev pub first : List ℕ → Option ℕ
@@ -26,9 +26,9 @@ abbrev pub name_at : List ℕ → Option Place
 name_at [] = None
 name_at (b ∷ bs) = name_of b
 
-abbrev pub digitAt : List ℕ → Option Quadrant
-digitAt [] = None
-digitAt (b ∷ bs) = digitOf b
+abbrev pub digit_at : List ℕ → Option Quadrant
+digit_at [] = None
+digit_at (b ∷ bs) = digit_of b
 
 -- the bytes that are still to be read, and the steps so far
 abbrev pub left : Reader → List ℕ
@@ -39,10 +39,10 @@ made a = take a.count a.steps
 
 pub record Fit (a : Reader) : Type 0 where
   pub inside : a.pos ≤ length a.src.now
-  pub short : length a.src.now ≤ max-bytes
+  pub short : length a.src.now ≤ max_bytes
   pub room : a.count ≤ a.pos
-  pub waits : a.waiting ≤ max-waiting
-  pub long : length a.steps ≡ max-bytes
+  pub waits : a.waiting ≤ max_waiting
+  pub long : length a.steps ≡ max_bytes
 
 -- from a to b the bytes xs were read, and the steps ss were added
 pub record Did (xs : List ℕ) (ss : List Step) (a b : Reader) : Type 0 where
@@ -114,8 +114,8 @@ codes (m ∷ ms) = m.code ∷ codes ms
 abbrev pub Because : Cat → List ℕ → Byte → List ℕ → Fault → Type 0
 Because c xs m rest TooLong = ⊥
 Because c xs m rest (Grammar i) = (σ : State) → Opens c σ → Blocked (run σ xs) rest
-Because c xs m rest (Level i) = (first rest ≡ Some m.code) × (m.level ≡ max-level + 1)
-Because c xs m rest (Waiting i) = (first rest ≡ Some m.code) × (m.waiting ≡ max-waiting + 1)
+Because c xs m rest (Level i) = (first rest ≡ Some m.code) × (m.level ≡ max_level + 1)
+Because c xs m rest (Waiting i) = (first rest ≡ Some m.code) × (m.waiting ≡ max_waiting + 1)
 
 abbrev pub byte_of : Fault → ℕ
 byte_of TooLong = 0
@@ -142,7 +142,7 @@ Reads c l a b (Err f) = Lost c l a f
 
 -- the byte that opens a part that is not a plain place
 abbrev pub Opened : ℕ → Reader → Reader → Result Opening Fault → Type 0
-Opened l a b (Ok o) = Took (opener o ∷ []) a b × (l < max-level)
+Opened l a b (Ok o) = Took (opener o ∷ []) a b × (l < max_level)
 Opened l a b (Err f) = Lost part l a f
 
 abbrev pub Begun : Reader → Reader → Start → Type 0
@@ -151,7 +151,7 @@ Begun a b Bracket = Took (40 ∷ []) a b
 Begun a b Pieces = Took (91 ∷ []) a b
 
 abbrev pub Starts : ℕ → Reader → Reader → Result Start Fault → Type 0
-Starts l a b (Ok o) = Begun a b o × (l < max-level)
+Starts l a b (Ok o) = Begun a b o × (l < max_level)
 Starts l a b (Err f) = Lost part l a f
 
 -- the whole script was read

@@ -1,7 +1,7 @@
 //! A reader for each category of the grammar.
 ghost use Rattle.std.specs.Prelude.{◌≡◌, ℕ, ◌<◌, ◌≤◌, length, Some, None};
 ghost use Rattle.recipe.specs.Trees.{sum, product, part, closed, line};
-ghost use Rattle.recipe.specs.Limits.{max-level};
+ghost use Rattle.recipe.specs.Limits.{max_level};
 ghost use Rattle.recipe.specs.Devices.Reading.{left, name_at, Fit, Reads, Opened, Starts, Digits, Whole};
 
 use super::Reader;
@@ -33,7 +33,7 @@ impl Reader<'_> {
     /// The byte that opens a part, inside `around` others that are not plain places.
     fn opening(&mut self, around: usize) -> Result<Opening, Fault>
         requires fit { Fit self.old }
-        requires deep { around ≤ max-level }
+        requires deep { around ≤ max_level }
         requires other { name_at (left self.old) ≡ None }
         ensures { Opened around self.old self.new result }
     {
@@ -72,7 +72,7 @@ impl Reader<'_> {
     /// The start of a part that is not a plain place.
     fn start(&mut self, around: usize) -> Result<Start, Fault>
         requires fit { Fit self.old }
-        requires deep { around ≤ max-level }
+        requires deep { around ≤ max_level }
         requires other { name_at (left self.old) ≡ None }
         ensures { Starts around self.old self.new result }
     {
@@ -106,7 +106,7 @@ impl Reader<'_> {
     #[cycle(closed_part_product_sum)]
     fn part(&mut self, around: usize) -> Result<(), Fault>
         requires fit { Fit self.old }
-        requires deep { around ≤ max-level }
+        requires deep { around ≤ max_level }
         ensures { Reads part around self.old self.new result }
     {
         if let Some(place) = self.peek_place() {
@@ -134,7 +134,7 @@ impl Reader<'_> {
     #[cycle(closed_part_product_sum)]
     fn product(&mut self, around: usize) -> Result<(), Fault>
         requires fit { Fit self.old }
-        requires deep { around ≤ max-level }
+        requires deep { around ≤ max_level }
         ensures { Reads product around self.old self.new result }
     {
         self.part(around)?;
@@ -150,7 +150,7 @@ impl Reader<'_> {
     #[cycle(closed_part_product_sum)]
     fn sum(&mut self, around: usize) -> Result<(), Fault>
         requires fit { Fit self.old }
-        requires deep { around ≤ max-level }
+        requires deep { around ≤ max_level }
         ensures { Reads sum around self.old self.new result }
     {
         self.product(around)?;
@@ -166,7 +166,7 @@ impl Reader<'_> {
     #[cycle(closed_part_product_sum)]
     fn closed(&mut self, around: usize, end: u8) -> Result<(), Fault>
         requires fit { Fit self.old }
-        requires deep { around ≤ max-level }
+        requires deep { around ≤ max_level }
         ensures { Reads (closed end) around self.old self.new result }
     {
         self.sum(around)?;

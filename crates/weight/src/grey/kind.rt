@@ -1,11 +1,11 @@
 ghost use Rattle.std.specs.Prelude.{◌≡◌};
 ghost use Rattle.std.proofs.Common.{ap, arith};
-ghost use Rattle.weight.specs.Grey.{grey, grey-kind, grey-writing};
+ghost use Rattle.weight.specs.Grey.{grey, grey_kind, grey_writing};
 ghost use Rattle.std.proofs.Math.Nat.{mod-add-mod};
-ghost use Rattle.weight.specs.Rounded.{rounded-laws, plus-and-times};
+ghost use Rattle.weight.specs.Rounded.{rounded_laws, plus_and_times};
 ghost use Rattle.weight.specs.Rounds.{mod-mul-mod};
-ghost use Rattle.weight.specs.Same.{same-grey};
-ghost use Rattle.weight.specs.OneWord.{one-word-laws};
+ghost use Rattle.weight.specs.Same.{same_grey};
+ghost use Rattle.weight.specs.OneWord.{one_word_laws};
 
 use super::Grey;
 use crate::kind::Weight;
@@ -33,14 +33,14 @@ impl Grey {
 }
 
 impl Weight for Grey {
-    ghost kind = { grey-kind };
+    ghost kind = { grey_kind };
 
-    ghost laws = { rounded-laws grey (λ x. x.level) plus-and-times (record {
-      add-of = λ a b. same-grey (mod-add-mod a 65536 b);
-      mul-of = λ a b. same-grey (mod-mul-mod a 65536 b);
-      plus-zero = λ x. same-grey (omega arith);
-      times-one = λ x. same-grey (omega arith);
-      times_zero = λ x. same-grey (omega arith);
+    ghost laws = { rounded_laws grey (λ x. x.level) plus_and_times (record {
+      add_of = λ a b. same_grey (mod-add-mod a 65536 b);
+      mul_of = λ a b. same_grey (mod-mul-mod a 65536 b);
+      plus_zero = λ x. same_grey (omega arith);
+      times_one = λ x. same_grey (omega arith);
+      times_zero = λ x. same_grey (omega arith);
       apart = λ e. omega (arith, ap (λ x. x.level) e);
     }) };
 
@@ -66,9 +66,9 @@ impl Weight for Grey {
 }
 
 impl Written for Grey {
-    ghost writing = { grey-writing };
+    ghost writing = { grey_writing };
 
-    ghost words = { one-word-laws 2 (omega arith) (omega arith) (λ v. v.level) (λ v. omega arith) (λ v w. same-grey) };
+    ghost words = { one_word_laws 2 (omega arith) (omega arith) (λ v. v.level) (λ v. omega arith) (λ v w. same_grey) };
 
     fn code() -> u32 {
         2

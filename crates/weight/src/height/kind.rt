@@ -1,11 +1,11 @@
 ghost use Rattle.std.specs.Prelude.{◌≡◌};
 ghost use Rattle.std.proofs.Common.{ap, arith};
-ghost use Rattle.weight.specs.Height.{height-number, height, height-kind, height-writing};
-ghost use Rattle.weight.specs.Rounded.{rounded-laws, min-and-plus};
-ghost use Rattle.weight.specs.Rounds.{cap-add-cap, cap-min-cap};
-ghost use Rattle.weight.specs.Same.{same-height};
+ghost use Rattle.weight.specs.Height.{height_number, height, height_kind, height_writing};
+ghost use Rattle.weight.specs.Rounded.{rounded_laws, min_and_plus};
+ghost use Rattle.weight.specs.Rounds.{cap_add_cap, cap_min_cap};
+ghost use Rattle.weight.specs.Same.{same_height};
 ghost use Rattle.weight.specs.HeightWeightLemmas.{number_of};
-ghost use Rattle.weight.specs.OneWord.{one-word-laws};
+ghost use Rattle.weight.specs.OneWord.{one_word_laws};
 
 use super::Height;
 use crate::kind::Weight;
@@ -25,22 +25,22 @@ impl Height {
     }
 
     pub fn number(self) -> u32
-        ensures { result ≡ height-number self }
+        ensures { result ≡ height_number self }
     {
         u32::from_be_bytes([0, self.high, self.middle, self.low])
     }
 }
 
 impl Weight for Height {
-    ghost kind = { height-kind };
+    ghost kind = { height_kind };
 
-    ghost laws = { rounded-laws height height-number min-and-plus (record {
-      add-of = λ a b. same-height (simp number_of (cap-min-cap a 16777215 b));
-      mul-of = λ a b. same-height (simp number_of (cap-add-cap a 16777215 b));
-      plus-zero = λ x. same-height (omega arith);
-      times-one = λ x. same-height (omega arith);
-      times_zero = λ x. same-height (omega arith);
-      apart = λ e. omega (arith, ap height-number e);
+    ghost laws = { rounded_laws height height_number min_and_plus (record {
+      add_of = λ a b. same_height (simp number_of (cap_min_cap a 16777215 b));
+      mul_of = λ a b. same_height (simp number_of (cap_add_cap a 16777215 b));
+      plus_zero = λ x. same_height (omega arith);
+      times_one = λ x. same_height (omega arith);
+      times_zero = λ x. same_height (omega arith);
+      apart = λ e. omega (arith, ap height_number e);
     }) };
 
     fn zero() -> Height {
@@ -65,9 +65,9 @@ impl Weight for Height {
 }
 
 impl Written for Height {
-    ghost writing = { height-writing };
+    ghost writing = { height_writing };
 
-    ghost words = { one-word-laws 3 (omega arith) (omega arith) height-number (λ v. omega arith) (λ v w. same-height) };
+    ghost words = { one_word_laws 3 (omega arith) (omega arith) height_number (λ v. omega arith) (λ v w. same_height) };
 
     fn code() -> u32 {
         3

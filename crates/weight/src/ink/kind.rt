@@ -1,10 +1,10 @@
 ghost use Rattle.std.specs.Prelude.{◌≡◌};
 ghost use Rattle.std.proofs.Common.{ap, arith};
-ghost use Rattle.weight.specs.Ink.{ink, ink-kind, ink-writing};
-ghost use Rattle.weight.specs.Rounded.{rounded-laws, plus-and-times};
-ghost use Rattle.weight.specs.Rounds.{cap-add-cap, cap-mul-cap};
-ghost use Rattle.weight.specs.Same.{same-ink};
-ghost use Rattle.weight.specs.OneWord.{one-word-laws};
+ghost use Rattle.weight.specs.Ink.{ink, ink_kind, ink_writing};
+ghost use Rattle.weight.specs.Rounded.{rounded_laws, plus_and_times};
+ghost use Rattle.weight.specs.Rounds.{cap_add_cap, cap_mul_cap};
+ghost use Rattle.weight.specs.Same.{same_ink};
+ghost use Rattle.weight.specs.OneWord.{one_word_laws};
 
 use super::Ink;
 use crate::kind::Weight;
@@ -32,14 +32,14 @@ impl Ink {
 }
 
 impl Weight for Ink {
-    ghost kind = { ink-kind };
+    ghost kind = { ink_kind };
 
-    ghost laws = { rounded-laws ink (λ x. x.amount) plus-and-times (record {
-      add-of = λ a b. same-ink (cap-add-cap a 255 b);
-      mul-of = λ a b. same-ink (cap-mul-cap a 255 b);
-      plus-zero = λ x. same-ink (omega arith);
-      times-one = λ x. same-ink (omega arith);
-      times_zero = λ x. same-ink (omega arith);
+    ghost laws = { rounded_laws ink (λ x. x.amount) plus_and_times (record {
+      add_of = λ a b. same_ink (cap_add_cap a 255 b);
+      mul_of = λ a b. same_ink (cap_mul_cap a 255 b);
+      plus_zero = λ x. same_ink (omega arith);
+      times_one = λ x. same_ink (omega arith);
+      times_zero = λ x. same_ink (omega arith);
       apart = λ e. omega (arith, ap (λ x. x.amount) e);
     }) };
 
@@ -65,9 +65,9 @@ impl Weight for Ink {
 }
 
 impl Written for Ink {
-    ghost writing = { ink-writing };
+    ghost writing = { ink_writing };
 
-    ghost words = { one-word-laws 4 (omega arith) (omega arith) (λ v. v.amount) (λ v. omega arith) (λ v w. same-ink) };
+    ghost words = { one_word_laws 4 (omega arith) (omega arith) (λ v. v.amount) (λ v. omega arith) (λ v w. same_ink) };
 
     fn code() -> u32 {
         4

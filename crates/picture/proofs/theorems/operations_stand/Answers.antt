@@ -1,10 +1,10 @@
 use Rattle.picture.specs.BodyOperations.{unturned}
 use Rattle.picture.specs.Operations.{mirrored}
-use Rattle.picture.proofs.DigitPictures.{redirected-sound, turn-shows, mirror-shows}
-use Rattle.picture.proofs.PiecedPictures.{pieced-sound, pieced-shows}
-use Rattle.picture.proofs.ProductPictures.{product-sound, product-shows}
-use Rattle.picture.proofs.SumPictures.{sum-sound, sum-shows}
-use Rattle.picture.proofs.ZoomPictures.{zoom-sound, zoom-shows}
+use Rattle.picture.proofs.DigitPictures.{redirected_sound, turn_shows, mirror_shows}
+use Rattle.picture.proofs.PiecedPictures.{pieced_sound, pieced_shows}
+use Rattle.picture.proofs.ProductPictures.{product_sound, product_shows}
+use Rattle.picture.proofs.SumPictures.{sum_sound, sum_shows}
+use Rattle.picture.proofs.ZoomPictures.{zoom_sound, zoom_shows}
 use Rattle.picture.proofs.theorems.operations_stand.Goals as goal
 
 pub returns : goal.returns
@@ -13,17 +13,17 @@ returns g c =
     let laws = g.met.W.Weight.laws in
     record {
       sound = record {
-        sums = sum-sound;
-        products = product-sound k;
-        turns = redirected-sound unturned;
-        mirrors = redirected-sound mirrored;
-        zooms = zoom-sound k;
-        piecings = pieced-sound k;
+        sums = sum_sound;
+        products = product_sound k;
+        turns = redirected_sound unturned;
+        mirrors = redirected_sound mirrored;
+        zooms = zoom_sound k;
+        piecings = pieced_sound k;
       };
-      sums = sum-shows laws;
-      products = product-shows laws;
-      turns = turn-shows laws;
-      mirrors = mirror-shows laws;
-      zooms = zoom-shows laws;
-      piecings = pieced-shows laws;
+      sums = sum_shows laws;
+      products = product_shows laws;
+      turns = turn_shows laws;
+      mirrors = mirror_shows laws;
+      zooms = zoom_shows laws;
+      piecings = pieced_shows laws;
     }

@@ -3,19 +3,19 @@ use Rattle.std.specs.List.{zip, range_with_len}
 use Rattle.std.proofs.lemmas.List.Edits.{length-between}
 use Rattle.std.proofs.ByRecursion.{All-weaker}
 use Rattle.picture.specs.Bodies.{Within}
-use Rattle.compose.proofs.Copies.{parts_are, second-long}
-use Rattle.piece.specs.Parts.{entry-arc}
-use Rattle.piece.proofs.PartArcs.{part-arcs-are}
+use Rattle.compose.proofs.Copies.{parts_are, second_long}
+use Rattle.piece.specs.Parts.{entry_arc}
+use Rattle.piece.proofs.PartArcs.{part_arcs_are}
 use Rattle.piece.proofs.entries.enter.Goals as goal
 
 pub raise-requires : goal.raise-requires
 raise-requires g c =
     let r = c.args.part.now in
-    let few = c.requires.kept.few-arcs in
+    let few = c.requires.kept.few_arcs in
     let full : length r.arcs ≡ 512 = search rules in
     let one : length c.enter-states.new.out ≡ r.states = search rules in
     record {
-      long = second-long r.states r.count c.args.arcs.now c.enter-states.new.out c.requires.long one ∙ sym (length-between r.arcs 0 r.count (omega arith) ∙ omega arith);
+      long = second_long r.states r.count c.args.arcs.now c.enter-states.new.out c.requires.long one ∙ sym (length-between r.arcs 0 r.count (omega arith) ∙ omega arith);
       small = All-weaker (Within r.states) _ (λ x h. (omega (arith, h.0), omega (arith, h.1))) _ c.requires.kept.ends;
     }
 
@@ -23,7 +23,7 @@ pub returns : goal.returns
 returns g c =
     let r = c.args.part.now in
     let one : length c.enter-states.new.out ≡ r.states = search rules in
-    let two : length c.raise.new.out ≡ r.count = c.raise.auto.out ∙ second-long r.states r.count c.args.arcs.now c.enter-states.new.out c.requires.long one in
+    let two : length c.raise.new.out ≡ r.count = c.raise.auto.out ∙ second_long r.states r.count c.args.arcs.now c.enter-states.new.out c.requires.long one in
     ap (λ zs. zip zs c.join.new.out) (parts_are r.states r.count c.args.arcs.now c.enter-states.new.out c.raise.new.out c.requires.long one two)
-    ∙ part-arcs-are g.W.Weight.kind c.args.s c.args.quadrant r c.args.weights.now _ _ _ c.requires.kept c.requires.room
-    (c.enter-states.ensures ∙ ap (λ n. map (entry-arc c.args.s c.args.quadrant) (range_with_len 0 n)) (search rules)) c.raise.ensures c.join.ensures
+    ∙ part_arcs_are g.W.Weight.kind c.args.s c.args.quadrant r c.args.weights.now _ _ _ c.requires.kept c.requires.room
+    (c.enter-states.ensures ∙ ap (λ n. map (entry_arc c.args.s c.args.quadrant) (range_with_len 0 n)) (search rules)) c.raise.ensures c.join.ensures

@@ -3,10 +3,10 @@ use borrow.Author.Rules.{scaled_fits≤}
 use Rattle.std.specs.List.{zip}
 use Rattle.picture.specs.Stored.{stored}
 use Rattle.picture.specs.declared.quadrant.Quadrant.TheVariants.{UpperLeft, UpperRight, LowerLeft, LowerRight}
-use Rattle.compose.proofs.Copies.{parts_are, second-long}
-use Rattle.compose.proofs.Zipped.{zipped-append}
-use Rattle.piece.specs.Parts.{part-arcs}
-use Rattle.piece.proofs.FourParts.{four-arcs}
+use Rattle.compose.proofs.Copies.{parts_are, second_long}
+use Rattle.compose.proofs.Zipped.{zipped_append}
+use Rattle.piece.specs.Parts.{part_arcs}
+use Rattle.piece.proofs.FourParts.{four_arcs}
 use Rattle.piece.proofs.entries.enter_four.Goals as goal
 
 pub offset-bounds-products-x : goal.offset-bounds-products-x
@@ -30,14 +30,14 @@ returns g c =
     let y = rc.states + rc.count + (rd.states + rd.count) in
     let one : length c.enter-two.new.arcs ≡ x = search rules in
     let wide : length c.enter-two.new.products ≡ x = search rules in
-    let two : length c.enter-two-2.new.arcs ≡ y = c.enter-two-2.auto.arcs ∙ second-long x y c.args.arcs.now c.enter-two.new.arcs c.requires.long one in
-    let wide-two : length c.enter-two-2.new.products ≡ y = c.enter-two-2.auto.products ∙ second-long x y c.args.products.now c.enter-two.new.products c.requires.wide wide in
-    let front : zip c.enter-two.new.arcs c.enter-two.new.products ≡ part-arcs k 1 UpperLeft a ++ part-arcs k (1 + ra.states) UpperRight b = c.enter-two.ensures in
+    let two : length c.enter-two-2.new.arcs ≡ y = c.enter-two-2.auto.arcs ∙ second_long x y c.args.arcs.now c.enter-two.new.arcs c.requires.long one in
+    let wide-two : length c.enter-two-2.new.products ≡ y = c.enter-two-2.auto.products ∙ second_long x y c.args.products.now c.enter-two.new.products c.requires.wide wide in
+    let front : zip c.enter-two.new.arcs c.enter-two.new.products ≡ part_arcs k 1 UpperLeft a ++ part_arcs k (1 + ra.states) UpperRight b = c.enter-two.ensures in
     let back : zip c.enter-two-2.new.arcs c.enter-two-2.new.products
-    ≡ part-arcs k (1 + ra.states + rb.states) LowerLeft r ++ part-arcs k (1 + ra.states + rb.states + rc.states) LowerRight d = c.enter-two-2.ensures in
+    ≡ part_arcs k (1 + ra.states + rb.states) LowerLeft r ++ part_arcs k (1 + ra.states + rb.states + rc.states) LowerRight d = c.enter-two-2.ensures in
     ap₂ zip
     (parts_are x y c.args.arcs.now c.enter-two.new.arcs c.enter-two-2.new.arcs c.requires.long one two)
     (parts_are x y c.args.products.now c.enter-two.new.products c.enter-two-2.new.products c.requires.wide wide wide-two)
-    ∙ zipped-append c.enter-two.new.arcs c.enter-two-2.new.arcs c.enter-two.new.products c.enter-two-2.new.products (one ∙ sym wide)
+    ∙ zipped_append c.enter-two.new.arcs c.enter-two-2.new.arcs c.enter-two.new.products c.enter-two-2.new.products (one ∙ sym wide)
     ∙ ap₂ ◌++◌ front back
-    ∙ four-arcs k a b r d
+    ∙ four_arcs k a b r d

@@ -1,5 +1,5 @@
 use Rattle.std.proofs.Common.{◌<◌, ◌≢◌, length, set, ap, ◌∙◌, arith, get_or-set_other, get_or-set_same, below_more}
-use Rattle.piece.proofs.NewState.{firsts-are}
+use Rattle.piece.proofs.NewState.{firsts_are}
 use Rattle.piece.proofs.rows.write_firsts.Goals as goal
 
 pub loop-i-preserved : goal.loop-i-preserved
@@ -11,4 +11,4 @@ loop-i-preserved g c =
 pub returns : goal.returns
 returns g c =
     let k = g.W.Weight.kind in
-    ap (set c.loop-i.out 0) c.one.ensures ∙ firsts-are k.one k.zero _ c.loop-i.out c.loop-i.auto.out c.requires (λ j h. c.loop-i.invariant j (omega arith))
+    ap (set c.loop-i.out 0) c.one.ensures ∙ firsts_are k.one k.zero _ c.loop-i.out c.loop-i.auto.out c.requires (λ j h. c.loop-i.invariant j (omega arith))

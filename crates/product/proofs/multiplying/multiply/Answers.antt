@@ -1,15 +1,15 @@
 use Rattle.std.proofs.Common.{◌≡◌, ◌*◌, length, sym, refl, ap, ◌∙◌, arith, rules}
 use Rattle.std.proofs.lemmas.Slice.{between-put_mid}
-use Rattle.picture.specs.BodyOperations.{product-body}
+use Rattle.picture.specs.BodyOperations.{product_body}
 use Rattle.picture.specs.Pictures.{picture}
 use Rattle.picture.specs.Stored.{stored}
-use Rattle.picture.proofs.ProductPictures.{product-sound, product-shows}
-use Rattle.picture.proofs.Storing.{stored-sound}
-use Rattle.compose.specs.Faults.{product-excess}
-use Rattle.compose.proofs.Bounds.{product-within}
-use Rattle.product.proofs.Pairing.{small-ends}
-use Rattle.product.proofs.Producing.{product-count}
-use Rattle.compose.proofs.Written.{body-made}
+use Rattle.picture.proofs.ProductPictures.{product_sound, product_shows}
+use Rattle.picture.proofs.Storing.{stored_sound}
+use Rattle.compose.specs.Faults.{product_excess}
+use Rattle.compose.proofs.Bounds.{product_within}
+use Rattle.product.proofs.Pairing.{small_ends}
+use Rattle.product.proofs.Producing.{product_count}
+use Rattle.compose.proofs.Written.{body_made}
 use Rattle.product.proofs.multiplying.multiply.Goals as goal
 
 pub returns-in-Some : goal.returns-in-Some
@@ -19,9 +19,9 @@ returns-in-Some g c =
     let b = c.args.b.now in
     let fa : length a.arcs ≡ 512 = search rules in
     let fb : length b.arcs ≡ 512 = search rules in
-    let count = product-count k a b c.args.front.now c.args.back.now c.requires.kept-a c.requires.kept_b c.requires.room-a c.requires.room-b fa fb ∙ sym c.count-matches-m.ensures in
+    let count = product_count k a b c.args.front.now c.args.back.now c.requires.kept-a c.requires.kept_b c.requires.room-a c.requires.room-b fa fb ∙ sym c.count-matches-m.ensures in
     record {
-      body = record { because = ap (product-excess k (a.states * b.states)) count ∙ sym c.product-fault.ensures ∙ c.in-Some.is; unchanged = refl };
+      body = record { because = ap (product_excess k (a.states * b.states)) count ∙ sym c.product-fault.ensures ∙ c.in-Some.is; unchanged = refl };
       shows = tt;
     }
 
@@ -32,13 +32,13 @@ pair-arcs-requires g c =
     let b = c.args.b.now in
     let fa : length a.arcs ≡ 512 = search rules in
     let fb : length b.arcs ≡ 512 = search rules in
-    let fits = product-within k (a.states * b.states) c.count-matches-m.result (sym c.product-fault.ensures ∙ c.in-default.is) in
+    let fits = product_within k (a.states * b.states) c.count-matches-m.result (sym c.product-fault.ensures ∙ c.in-default.is) in
     record {
       long = search rules;
       room =
-          product-count k a b c.args.front.now c.args.back.now c.requires.kept-a c.requires.kept_b c.requires.room-a c.requires.room-b fa fb
+          product_count k a b c.args.front.now c.args.back.now c.requires.kept-a c.requires.kept_b c.requires.room-a c.requires.room-b fa fb
           ∙ sym c.count-matches-m.ensures ∙ search rules;
-      small = small-ends a.states b.states _ _ (stored-sound a c.args.front.now c.requires.kept-a c.requires.room-a).ends (stored-sound b c.args.back.now c.requires.kept_b c.requires.room-b).ends fits.1;
+      small = small_ends a.states b.states _ _ (stored_sound a c.args.front.now c.requires.kept-a c.requires.room-a).ends (stored_sound b c.args.back.now c.requires.kept_b c.requires.room-b).ends fits.1;
     }
 
 pub returns : goal.returns
@@ -50,17 +50,17 @@ returns g c =
     let back = c.args.back.now in
     let fa : length a.arcs ≡ 512 = search rules in
     let fb : length b.arcs ≡ 512 = search rules in
-    let sa = stored-sound a front c.requires.kept-a c.requires.room-a in
-    let sb = stored-sound b back c.requires.kept_b c.requires.room-b in
+    let sa = stored_sound a front c.requires.kept-a c.requires.room-a in
+    let sb = stored_sound b back c.requires.kept_b c.requires.room-b in
     let ok = sym c.product-fault.ensures ∙ c.in-default.is in
-    let fits = product-within k (a.states * b.states) c.count-matches-m.result ok in
-    let count = product-count k a b front back c.requires.kept-a c.requires.kept_b c.requires.room-a c.requires.room-b fa fb ∙ sym c.count-matches-m.ensures in
+    let fits = product_within k (a.states * b.states) c.count-matches-m.result ok in
+    let count = product_count k a b front back c.requires.kept-a c.requires.kept_b c.requires.room-a c.requires.room-b fa fb ∙ sym c.count-matches-m.ensures in
     let long : length c.pair-arcs.new.out ≡ c.count-matches-m.result = search rules in
-    let made = body-made _ (product-body k (stored a front) (stored b back)) _ _ c.args.out.now _ _ _
-    (ap (product-excess k (a.states * b.states)) count ∙ ok) (product-sound k _ _ sa sb) c.requires.room refl fits.1 fits.2
+    let made = body_made _ (product_body k (stored a front) (stored b back)) _ _ c.args.out.now _ _ _
+    (ap (product_excess k (a.states * b.states)) count ∙ ok) (product_sound k _ _ sa sb) c.requires.room refl fits.1 fits.2
     (between-put_mid 0 _ a.arcs c.pair-arcs.new.out c.count-matches-m.result (omega arith) (omega arith)) long (search rules)
     c.pair-weights.ensures c.pair-weights-2.ensures c.pair-arcs.ensures in
     record {
       body = made;
-      shows = λ w. ap (λ s. picture k s w) made.body ∙ product-shows g.met.W.Weight.laws fits.0 (stored a front) (stored b back) sa sb w;
+      shows = λ w. ap (λ s. picture k s w) made.body ∙ product_shows g.met.W.Weight.laws fits.0 (stored a front) (stored b back) sa sb w;
     }

@@ -2,8 +2,8 @@ use Rattle.std.proofs.Common.{◌≡◌, sym, refl, ap, ◌∙◌, ap₂, arith,
 use Rattle.std.specs.List.{zip}
 use Rattle.std.specs.Slice.Iter.{iter_rest}
 use Rattle.std.proofs.lemmas.Map.Pairs.{pairs-rest, pairs-rest-all, pairs-rest-more}
-use Rattle.picture.specs.BodyOperations.{arc-pair}
-use Rattle.product.proofs.Appending.{append-more, append-end, count-more, count-end}
+use Rattle.picture.specs.BodyOperations.{arc_pair}
+use Rattle.product.proofs.Appending.{append_more, append_end, count_more, count_end}
 use Rattle.product.proofs.Pairing.{pair_is}
 use Rattle.product.proofs.pairs.pair_arc.Goals as goal
 
@@ -19,24 +19,24 @@ loop-other-init g c =
 pub loop-other-preserved-then-is : goal.loop-other-preserved-then-is
 loop-other-preserved-then-is g c =
     let k = g.W.Weight.kind in
-    let pair = arc-pair k c.args.states (c.args.arc, c.args.weight) in
+    let pair = arc_pair k c.args.states (c.args.arc, c.args.weight) in
     let more = pairs-rest-more _ _ _ _ c.in-Some.is c.next.ensures.steps in
     let one = pair_is k c.args.states (c.args.arc, c.args.weight) (c.in-Some.other.now, c.in-Some.factor.now) c.times.result (sym c.is.ensures ∙ c.if-is.true) c.times.ensures in
-    let step = append-more pair c.loop-other.out c.loop-other.products (omega arith) c.loop-other.k _
+    let step = append_more pair c.loop-other.out c.loop-other.products (omega arith) c.loop-other.k _
     _ _ (c.in-Some.other.now, c.in-Some.factor.now) _ c.times.result more one c.loop-other.invariant.3 c.loop-other.invariant.4 in (
       search rules,
       search rules,
       (rw more at c.loop-other.invariant.2).1,
       step.0,
       step.1,
-      count-more pair c.loop-other.k _ _ _ (c.in-Some.other.now, c.in-Some.factor.now) _ more one c.loop-other.invariant.5,
+      count_more pair c.loop-other.k _ _ _ (c.in-Some.other.now, c.in-Some.factor.now) _ more one c.loop-other.invariant.5,
     )
 
 pub returns : goal.returns
 returns g c =
-    let pair = arc-pair g.W.Weight.kind c.args.states (c.args.arc, c.args.weight) in
+    let pair = arc_pair g.W.Weight.kind c.args.states (c.args.arc, c.args.weight) in
     let rest = pairs-rest-all _ _ _ c.in-None.is c.next.ensures.steps in
     record {
-      number = count-end pair c.loop-other.k _ _ rest c.loop-other.invariant.5;
-      arcs = append-end pair c.loop-other.out c.loop-other.products (omega arith) c.loop-other.k _ _ rest c.loop-other.invariant.4;
+      number = count_end pair c.loop-other.k _ _ rest c.loop-other.invariant.5;
+      arcs = append_end pair c.loop-other.out c.loop-other.products (omega arith) c.loop-other.k _ _ rest c.loop-other.invariant.4;
     }

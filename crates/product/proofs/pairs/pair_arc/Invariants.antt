@@ -2,7 +2,7 @@ use Rattle.std.proofs.Common.{◌≡◌, ◌+◌, ◌≤◌, ◌++◌, length, t
 use Rattle.std.specs.List.{zip, flat_map, AllByRecursion as All}
 use Rattle.std.proofs.lemmas.Map.Pairs.{pairs-rest}
 use Rattle.picture.specs.Bodies.{Within}
-use Rattle.picture.specs.BodyOperations.{arc-pair}
+use Rattle.picture.specs.BodyOperations.{arc_pair}
 use Rattle.product.specs.Ends.{pair_ends}
 use Rattle.product.proofs.pairs.pair_arc.Given as goal
 
@@ -12,8 +12,8 @@ invariant-loop-other g l =
     (goal.iterator-loop-other g).can_next l.other-iterator
     × (goal.iterator-loop-other g).is_finite l.other-iterator
     × All (λ e. Within 256 (pair_ends l.states l.arc e.0)) (pairs-rest l.other-iterator)
-    × (l.k + length (flat_map (arc-pair k l.states (l.arc, l.weight)) (pairs-rest l.other-iterator)) ≤ length l.out)
-    × (zip (take l.k l.out) (take l.k l.products) ++ flat_map (arc-pair k l.states (l.arc, l.weight)) (pairs-rest l.other-iterator)
-    ≡ zip (take l.start l.initial.out) (take l.start l.initial.products) ++ flat_map (arc-pair k l.states (l.arc, l.weight)) (zip l.others l.factors))
-    × (l.k + length (flat_map (arc-pair k l.states (l.arc, l.weight)) (pairs-rest l.other-iterator))
-    ≡ l.start + length (flat_map (arc-pair k l.states (l.arc, l.weight)) (zip l.others l.factors)))
+    × (l.k + length (flat_map (arc_pair k l.states (l.arc, l.weight)) (pairs-rest l.other-iterator)) ≤ length l.out)
+    × (zip (take l.k l.out) (take l.k l.products) ++ flat_map (arc_pair k l.states (l.arc, l.weight)) (pairs-rest l.other-iterator)
+    ≡ zip (take l.start l.initial.out) (take l.start l.initial.products) ++ flat_map (arc_pair k l.states (l.arc, l.weight)) (zip l.others l.factors))
+    × (l.k + length (flat_map (arc_pair k l.states (l.arc, l.weight)) (pairs-rest l.other-iterator))
+    ≡ l.start + length (flat_map (arc_pair k l.states (l.arc, l.weight)) (zip l.others l.factors)))

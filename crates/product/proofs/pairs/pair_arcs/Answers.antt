@@ -3,8 +3,8 @@ use Rattle.std.specs.List.{zip, flat_map}
 use Rattle.std.specs.Slice.Iter.{iter_rest}
 use Rattle.std.proofs.lemmas.List.{take_all}
 use Rattle.std.proofs.lemmas.Map.Pairs.{pairs-rest, pairs-rest-all, pairs-rest-more}
-use Rattle.picture.specs.BodyOperations.{arc-pair}
-use Rattle.product.proofs.Appending.{join-room, join_more, join-end}
+use Rattle.picture.specs.BodyOperations.{arc_pair}
+use Rattle.product.proofs.Appending.{join_room, join_more, join_end}
 use Rattle.product.proofs.pairs.pair_arcs.Goals as goal
 
 started : (g : _) (c : goal.After-into-iter-arc-iterator g) → pairs-rest c.into-iter-arc-iterator.result ≡ zip c.args.arcs.now c.args.weights.now
@@ -21,14 +21,14 @@ pair-arc-k-requires g c =
     let more = pairs-rest-more _ _ _ _ c.in-Some.is c.next.ensures.steps in
     record {
       long = c.loop-arc.invariant.3;
-      room = join-room (λ e. flat_map (arc-pair g.W.Weight.kind c.args.states e) (zip c.args.others.now c.args.factors.now)) c.loop-arc.k (length c.loop-arc.out) _ _ _ more c.loop-arc.invariant.4;
+      room = join_room (λ e. flat_map (arc_pair g.W.Weight.kind c.args.states e) (zip c.args.others.now c.args.factors.now)) c.loop-arc.k (length c.loop-arc.out) _ _ _ more c.loop-arc.invariant.4;
       small = (rw more at c.loop-arc.invariant.2).0;
     }
 
 pub loop-arc-preserved : goal.loop-arc-preserved
 loop-arc-preserved g c =
     let more = pairs-rest-more _ _ _ _ c.in-Some.is c.next.ensures.steps in
-    let step = join_more (λ e. flat_map (arc-pair g.W.Weight.kind c.args.states e) (zip c.args.others.now c.args.factors.now)) c.loop-arc.k (length c.loop-arc.out)
+    let step = join_more (λ e. flat_map (arc_pair g.W.Weight.kind c.args.states e) (zip c.args.others.now c.args.factors.now)) c.loop-arc.k (length c.loop-arc.out)
     (zip (take c.loop-arc.k c.loop-arc.out) (take c.loop-arc.k c.loop-arc.products)) _
     _ _ _ c.pair-arc-k.result _ more c.loop-arc.invariant.4 c.loop-arc.invariant.5 c.pair-arc-k.ensures.number c.pair-arc-k.ensures.arcs in
     (search rules, search rules, (rw more at c.loop-arc.invariant.2).1, search rules, step.0 ∙ search rules, step.1)
@@ -36,7 +36,7 @@ loop-arc-preserved g c =
 pub returns : goal.returns
 returns g c =
     let rest = pairs-rest-all _ _ _ c.in-None.is c.next.ensures.steps in
-    let end = join-end (λ e. flat_map (arc-pair g.W.Weight.kind c.args.states e) (zip c.args.others.now c.args.factors.now)) c.loop-arc.k (length c.loop-arc.out)
+    let end = join_end (λ e. flat_map (arc_pair g.W.Weight.kind c.args.states e) (zip c.args.others.now c.args.factors.now)) c.loop-arc.k (length c.loop-arc.out)
     (zip (take c.loop-arc.k c.loop-arc.out) (take c.loop-arc.k c.loop-arc.products)) _
     _ rest c.loop-arc.invariant.4 c.loop-arc.invariant.5 in
     sym (ap₂ zip (take_all c.loop-arc.k c.loop-arc.out (omega (arith, end.0))) (take_all c.loop-arc.k c.loop-arc.products (omega (arith, end.0, c.loop-arc.invariant.3)))) ∙ end.1

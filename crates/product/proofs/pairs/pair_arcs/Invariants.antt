@@ -2,7 +2,7 @@ use Rattle.std.proofs.Common.{◌≡◌, ◌+◌, ◌++◌, length, take}
 use Rattle.std.specs.List.{zip, AllByRecursion as All}
 use Rattle.std.proofs.lemmas.Map.Pairs.{pairs-rest}
 use Rattle.picture.specs.Bodies.{Within}
-use Rattle.picture.specs.BodyOperations.{arc-pairs}
+use Rattle.picture.specs.BodyOperations.{arc_pairs}
 use Rattle.product.specs.Ends.{pair_ends}
 use Rattle.product.proofs.pairs.pair_arcs.Given as goal
 
@@ -13,6 +13,6 @@ invariant-loop-arc g l =
     × (goal.iterator-loop-arc g).is_finite l.arc-iterator
     × All (λ e. All (λ f. Within 256 (pair_ends l.states e.0 f.0)) (zip l.others l.factors)) (pairs-rest l.arc-iterator)
     × (length l.out ≡ length l.products)
-    × (l.k + length (arc-pairs k l.states (pairs-rest l.arc-iterator) (zip l.others l.factors)) ≡ length l.out)
-    × (zip (take l.k l.out) (take l.k l.products) ++ arc-pairs k l.states (pairs-rest l.arc-iterator) (zip l.others l.factors)
-    ≡ arc-pairs k l.states (zip l.arcs l.weights) (zip l.others l.factors))
+    × (l.k + length (arc_pairs k l.states (pairs-rest l.arc-iterator) (zip l.others l.factors)) ≡ length l.out)
+    × (zip (take l.k l.out) (take l.k l.products) ++ arc_pairs k l.states (pairs-rest l.arc-iterator) (zip l.others l.factors)
+    ≡ arc_pairs k l.states (zip l.arcs l.weights) (zip l.others l.factors))

@@ -1,5 +1,5 @@
-use Rattle.recipe.proofs.Single.{accepted-exactly}
+use Rattle.recipe.proofs.Single.{accepted_exactly}
 use Rattle.recipe.proofs.theorems.accepted_exactly.Goals as goal
 
 pub returns : goal.returns
-returns c = accepted-exactly
+returns c = accepted_exactly

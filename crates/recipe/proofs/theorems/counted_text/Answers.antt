@@ -4,9 +4,9 @@ use Rattle.recipe.specs.Limits.{Byte}
 use Rattle.recipe.proofs.Refusals.{spells}
 use Rattle.recipe.proofs.theorems.counted_text.Goals as goal
 
-map-codes : (bs : List Byte) → map (λ b. b.code) bs ≡ codes bs
-map-codes [] = refl
-map-codes (b ∷ bs) = ap (λ cs. b.code ∷ cs) (map-codes bs)
+map_codes : (bs : List Byte) → map (λ b. b.code) bs ≡ codes bs
+map_codes [] = refl
+map_codes (b ∷ bs) = ap (λ cs. b.code ∷ cs) (map_codes bs)
 
 pub returns : goal.returns
-returns c t = map-codes _ ∙ spells t 0 0
+returns c t = map_codes _ ∙ spells t 0 0

@@ -1,5 +1,5 @@
-use Rattle.recipe.proofs.Carried.{steps-carry}
+use Rattle.recipe.proofs.Carried.{steps_carry}
 use Rattle.recipe.proofs.theorems.steps_carry.Goals as goal
 
 pub returns : goal.returns
-returns c = steps-carry
+returns c = steps_carry

@@ -2,7 +2,7 @@ use Rattle.std.proofs.Common.{◌≡◌, ap, ◌∙◌, ap₂, rules}
 use Rattle.std.specs.List.{zip}
 use Rattle.std.specs.Slice.Iter.{iter_rest}
 use Rattle.std.proofs.lemmas.Map.Pairs.{pairs-rest, pairs-rest-all}
-use Rattle.weight.proofs.Totals.{zero-plus, total-start, total-end}
+use Rattle.weight.proofs.Totals.{zero_plus, total_start, total_end}
 use Rattle.steps.proofs.rows.gather.Goals as goal
 
 started : (g : _) (c : goal.After-into-iter-arc-iterator g) → pairs-rest c.into-iter-arc-iterator.result ≡ zip c.args.arcs.now c.args.weights.now
@@ -12,10 +12,10 @@ started g c =
 
 pub loop-arc-init : goal.loop-arc-init
 loop-arc-init g c =
-    (search rules, search rules, rw (started g c) c.requires, total-start g.met.W.Weight.laws _ _ _ _ c.zero-sum.ensures (started g c))
+    (search rules, search rules, rw (started g c) c.requires, total_start g.met.W.Weight.laws _ _ _ _ c.zero-sum.ensures (started g c))
 
 pub returns : goal.returns
-returns g c = total-end g.met.W.Weight.laws _ _ _ _ (pairs-rest-all _ _ _ c.in-None.is c.next.ensures.steps) c.loop-arc.invariant.3
+returns g c = total_end g.met.W.Weight.laws _ _ _ _ (pairs-rest-all _ _ _ c.in-None.is c.next.ensures.steps) c.loop-arc.invariant.3
 
 pub loop-arc-preserved : goal.loop-arc-preserved
-loop-arc-preserved g c = let left = zero-plus g.met.W.Weight.laws in search rules
+loop-arc-preserved g c = let left = zero_plus g.met.W.Weight.laws in search rules

@@ -2,13 +2,13 @@ use Rattle.std.proofs.Common.{◌≡◌, ◌<◌, ◌≢◌, length, sym, ap, �
 use Rattle.std.proofs.lemmas.List.FromFn.{fill_by_all}
 use Rattle.tile.specs.Bands.{slot, meeting}
 use Rattle.tile.proofs.Grids.{row_fits, column_fits}
-use Rattle.tile.proofs.Joins.{length-slot}
+use Rattle.tile.proofs.Joins.{length_slot}
 use Rattle.tile.proofs.cells.line.Goals as goal
 
-row-long : (g : _) (c : goal.After-slot-column g) → length c.slot-row.result.now ≡ c.args.states
-row-long g c =
+row_long : (g : _) (c : goal.After-slot-column g) → length c.slot-row.result.now ≡ c.args.states
+row_long g c =
     ap length c.slot-row.ensures
-    ∙ length-slot c.args.states _ c.args.rows.now (row_fits c.args.coarse c.args.fine c.loop-x.x c.args.states _ (omega (arith, c.loop-x-test.true)) c.requires.rows)
+    ∙ length_slot c.args.states _ c.args.rows.now (row_fits c.args.coarse c.args.fine c.loop-x.x c.args.states _ (omega (arith, c.loop-x-test.true)) c.requires.rows)
 
 pub slot-row-requires : goal.slot-row-requires
 slot-row-requires g c = row_fits c.args.coarse c.args.fine c.loop-x.x c.args.states _ (omega (arith, c.loop-x-test.true)) c.requires.rows
@@ -18,9 +18,9 @@ slot-column-requires g c = column_fits c.args.fine c.loop-x.x c.args.y _ c.args.
 
 pub meet-requires : goal.meet-requires
 meet-requires g c =
-    row-long g c
+    row_long g c
     ∙ sym (ap length c.slot-column.ensures
-    ∙ length-slot c.args.states _ c.args.columns.now (column_fits c.args.fine c.loop-x.x c.args.y _ c.args.states _ c.interleave.ensures c.requires.columns))
+    ∙ length_slot c.args.states _ c.args.columns.now (column_fits c.args.fine c.loop-x.x c.args.y _ c.args.states _ c.interleave.ensures c.requires.columns))
 
 pub loop-x-preserved : goal.loop-x-preserved
 loop-x-preserved g c =
@@ -29,7 +29,7 @@ loop-x-preserved g c =
     let column = c.slot-column.result.now in
     let long : length row ≡ c.args.states =
     ap length c.slot-row.ensures
-    ∙ length-slot c.args.states _ c.args.rows.now (row_fits c.args.coarse c.args.fine c.loop-x.x c.args.states _ (omega (arith, c.loop-x-test.true)) c.requires.rows) in
+    ∙ length_slot c.args.states _ c.args.rows.now (row_fits c.args.coarse c.args.fine c.loop-x.x c.args.states _ (omega (arith, c.loop-x-test.true)) c.requires.rows) in
     below_more _ _
     (λ i h. let ne : i ≢ c.loop-x.x = omega arith in rw get_or-set_other (c.loop-x.invariant i h))
     (let lt : c.loop-x.x < length c.loop-x.cells = omega arith in

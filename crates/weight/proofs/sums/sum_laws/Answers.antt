@@ -1,5 +1,5 @@
-use Rattle.weight.proofs.Totals.{sums-stand}
+use Rattle.weight.proofs.Totals.{sums_stand}
 use Rattle.weight.proofs.sums.sum_laws.Goals as goal
 
 pub returns : goal.returns
-returns g c = sums-stand g.met.W.Weight.laws _ _
+returns g c = sums_stand g.met.W.Weight.laws _ _

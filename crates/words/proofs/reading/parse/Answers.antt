@@ -1,25 +1,25 @@
 use Rattle.std.proofs.Common.{◌+◌, ◌*◌, ◌<◌, sym, refl, ap, ◌∙◌, arith, rules, ltb-false}
 use Rattle.std.proofs.lemmas.Slice.{first_rest}
 use Rattle.std.proofs.lemmas.Result.{err_from_is_err_and}
-use Rattle.words.proofs.Parsed.{refused-head, refused-count, refused-piece, parsed}
+use Rattle.words.proofs.Parsed.{refused_head, refused_count, refused_piece, parsed}
 use Rattle.words.proofs.reading.parse.Goals as goal
 
 pub returns-in-err-counts : goal.returns-in-err-counts
 returns-in-err-counts g c =
     let p = err_from_is_err_and c.from-residual.result c.from-residual.ensures.1 in
-    rw (p.1, p.2) (refused-head g.W.Written.writing (omega arith) c.args.given.now _ _ (first_rest c.args.given.now 0 (omega (arith, ltb-false))) _ c.in-err-counts.ensures)
+    rw (p.1, p.2) (refused_head g.W.Written.writing (omega arith) c.args.given.now _ _ (first_rest c.args.given.now 0 (omega (arith, ltb-false))) _ c.in-err-counts.ensures)
 
 pub returns-then-rest-size : goal.returns-then-rest-size
 returns-then-rest-size g c =
     let k = c.in-ok-counts.counts in
-    refused-count g.W.Written.writing (omega arith) c.args.given.now _ _ (first_rest c.args.given.now 0 (omega (arith, ltb-false))) k c.in-ok-counts.ensures
+    refused_count g.W.Written.writing (omega arith) c.args.given.now _ _ (first_rest c.args.given.now 0 (omega (arith, ltb-false))) k c.in-ok-counts.ensures
     (λ e. c.if-rest-size.true (e ∙ ap (λ x. k.states * (2 * x) + k.arcs * (1 + x)) (sym c.width-c.ensures)))
 
 pub returns-in-err-place : goal.returns-in-err-place
 returns-in-err-place g c =
     let k = c.in-ok-counts.counts in
     let p = err_from_is_err_and c.from-residual-in-err-place.result c.from-residual-in-err-place.ensures.1 in
-    rw (p.1, p.2) (refused-piece g.W.Written.writing (omega arith) c.args.given.now _ _ (first_rest c.args.given.now 0 (omega (arith, ltb-false))) k c.in-ok-counts.ensures
+    rw (p.1, p.2) (refused_piece g.W.Written.writing (omega arith) c.args.given.now _ _ (first_rest c.args.given.now 0 (omega (arith, ltb-false))) k c.in-ok-counts.ensures
     (c.if-rest-size.false ∙ ap (λ x. k.states * (2 * x) + k.arcs * (1 + x)) c.width-c.ensures) _ c.in-err-place.ensures)
 
 pub returns : goal.returns

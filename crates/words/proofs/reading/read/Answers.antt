@@ -2,7 +2,7 @@ use Rattle.std.proofs.Common.{Err, sym, refl, ap, ◌∙◌, subst}
 use Rattle.std.proofs.lemmas.Result.{err_from_is_err_and}
 use Rattle.picture.specs.Stored.{stored}
 use Rattle.words.specs.Format.{SpellsBody}
-use Rattle.words.proofs.Unique.{no_body, one-body, one-fault}
+use Rattle.words.proofs.Unique.{no_body, one_body, one_fault}
 use Rattle.words.proofs.reading.read.Goals as goal
 
 pub returns-in-err-place : goal.returns-in-err-place
@@ -15,7 +15,7 @@ returns-in-err-place g c =
     record {
       outcome = rw (p.1, p.2) (refused, refl);
       accepts = λ b h. absurd (no_body s laws given _ refused b h);
-      refuses = λ f h. p.1 ∙ ap Err (p.2 ∙ one-fault s laws given _ f refused h);
+      refuses = λ f h. p.1 ∙ ap Err (p.2 ∙ one_fault s laws given _ f refused h);
     }
 
 pub returns : goal.returns
@@ -28,6 +28,6 @@ returns g c =
     let held : SpellsBody s (stored place c.copy-from-slice.new.self) given = subst (λ mem. SpellsBody s (stored place mem) given) (sym c.copy-from-slice.ensures.after) ok.1 in
     record {
       outcome = (ok.0, held);
-      accepts = λ b h. (place, refl, one-body s laws (stored place c.copy-from-slice.new.self) b given held h);
+      accepts = λ b h. (place, refl, one_body s laws (stored place c.copy-from-slice.new.self) b given held h);
       refuses = λ f h. absurd (no_body s laws given f h (stored place c.copy-from-slice.new.self) held);
     }

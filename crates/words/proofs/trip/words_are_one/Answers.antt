@@ -1,5 +1,5 @@
-use Rattle.words.proofs.Bits.{head-layout, arc-layout}
-use Rattle.words.proofs.Unique.{one-body, no_body, one-fault}
+use Rattle.words.proofs.Bits.{head_layout, arc_layout}
+use Rattle.words.proofs.Unique.{one_body, no_body, one_fault}
 use Rattle.words.proofs.trip.words_are_one.Goals as goal
 
 pub returns : goal.returns
@@ -7,9 +7,9 @@ returns g c =
     let s = g.W.Written.writing in
     let laws = g.met.W.Written.words in
     record {
-      body = one-body s laws;
+      body = one_body s laws;
       none = no_body s laws;
-      fault = one-fault s laws;
-      heads = head-layout s laws.code-to laws.width-to;
-      arcs = arc-layout;
+      fault = one_fault s laws;
+      heads = head_layout s laws.code_to laws.width_to;
+      arcs = arc_layout;
     }

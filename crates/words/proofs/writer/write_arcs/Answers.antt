@@ -2,7 +2,7 @@ use Rattle.std.proofs.Common.{◌+◌, length, refl, arith}
 use Rattle.std.proofs.lemmas.List.{length-set}
 use Rattle.picture.specs.declared.body.Arc.{Arc}
 use Rattle.picture.specs.declared.quadrant.Quadrant.TheVariants.{UpperLeft}
-use Rattle.words.proofs.Writing.{more-fits, arcs-written, arcs-written-all}
+use Rattle.words.proofs.Writing.{more_fits, arcs_written, arcs_written_all}
 use Rattle.words.proofs.writer.write_arcs.Goals as goal
 
 -- the default at which an `Arc` is read
@@ -10,21 +10,21 @@ abbrev none : Arc
 none = record { from = 0; to = 0; quadrant = UpperLeft }
 
 pub offset-bounds-out-at : goal.offset-bounds-out-at
-offset-bounds-out-at g c = omega (arith, more-fits c.loop-k.k (length c.args.arcs.now) (1 + g.W.Written.writing.width) c.loop-k-test.true)
+offset-bounds-out-at g c = omega (arith, more_fits c.loop-k.k (length c.args.arcs.now) (1 + g.W.Written.writing.width) c.loop-k-test.true)
 
 pub bounds-out-at : goal.bounds-out-at
-bounds-out-at g c = omega (arith, more-fits c.loop-k.k (length c.args.arcs.now) (1 + g.W.Written.writing.width) c.loop-k-test.true)
+bounds-out-at g c = omega (arith, more_fits c.loop-k.k (length c.args.arcs.now) (1 + g.W.Written.writing.width) c.loop-k-test.true)
 
 pub offset-bounds-out-at-in-loop-k : goal.offset-bounds-out-at-in-loop-k
-offset-bounds-out-at-in-loop-k g c = omega (arith, more-fits c.loop-k.k (length c.args.arcs.now) (1 + g.W.Written.writing.width) c.loop-k-test.true)
+offset-bounds-out-at-in-loop-k g c = omega (arith, more_fits c.loop-k.k (length c.args.arcs.now) (1 + g.W.Written.writing.width) c.loop-k-test.true)
 
 pub slice-bounds-write-weight-end : goal.slice-bounds-write-weight-end
-slice-bounds-write-weight-end g c = omega (arith, more-fits c.loop-k.k (length c.args.arcs.now) (1 + g.W.Written.writing.width) c.loop-k-test.true, length-set c.loop-k.out c.loop-k.at c.arc-word.result)
+slice-bounds-write-weight-end g c = omega (arith, more_fits c.loop-k.k (length c.args.arcs.now) (1 + g.W.Written.writing.width) c.loop-k-test.true, length-set c.loop-k.out c.loop-k.at c.arc-word.result)
 
 pub loop-k-preserved : goal.loop-k-preserved
 loop-k-preserved g c =
-    arcs-written g.W.Written.writing (g.met.W.Written.words.count c.requires.narrow) c.loop-k.k c.width-c.result c.args.arcs.now c.args.weights.now _ none _ c.loop-k.at _ c.loop-k.out _
+    arcs_written g.W.Written.writing (g.met.W.Written.words.count c.requires.narrow) c.loop-k.k c.width-c.result c.args.arcs.now c.args.weights.now _ none _ c.loop-k.at _ c.loop-k.out _
     c.width-c.ensures c.loop-k-test.true c.requires.room refl c.index-weights-k.is c.arc-word.ensures c.write-weight.ensures c.loop-k.invariant
 
 pub returns : goal.returns
-returns g c = arcs-written-all g.W.Written.writing (g.met.W.Written.words.count c.requires.narrow) c.loop-k.k c.args.arcs.now c.args.weights.now c.loop-k.at c.loop-k.out c.requires.room (omega arith) c.loop-k.invariant
+returns g c = arcs_written_all g.W.Written.writing (g.met.W.Written.words.count c.requires.narrow) c.loop-k.k c.args.arcs.now c.args.weights.now c.loop-k.at c.loop-k.out c.requires.room (omega arith) c.loop-k.invariant

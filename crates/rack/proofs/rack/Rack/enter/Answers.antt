@@ -4,19 +4,19 @@ use Rattle.std.proofs.lemmas.Slice.{drop-put_mid}
 use Rattle.std.proofs.lemmas.Result.{err_from_is_err_and}
 use Rattle.picture.specs.Stored.{stored}
 use Rattle.recipe.specs.Places.{number}
-use Rattle.recipe.proofs.Numbers.{number-below}
+use Rattle.recipe.proofs.Numbers.{number_below}
 use Rattle.table.specs.Tables.{body_of}
-use Rattle.table.proofs.Bodies.{bodies-put, part-again}
-use Rattle.table.proofs.Keeping.{put-kept}
-use Rattle.rack.proofs.Holding.{rack-kept, as-rack}
-use Rattle.rack.proofs.Outcomes.{is-entered, is-not-entered, back-again, others-stay}
+use Rattle.table.proofs.Bodies.{bodies_put, part_again}
+use Rattle.table.proofs.Keeping.{put_kept}
+use Rattle.rack.proofs.Holding.{rack_kept, as_rack}
+use Rattle.rack.proofs.Outcomes.{is_entered, is_not_entered, back_again, others_stay}
 use Rattle.rack.proofs.rack.Rack.enter.Goals as goal
 
 pub invariant-of-self : goal.invariant-of-self
 invariant-of-self g c =
     let rack = c.args.self.now in
     let full : length c.in-ok-body.body.arcs ≡ 512 = search rules in
-    as-rack (put-kept rack.table c.put.new.self (number c.in-ok-place.place) _ c.put.ensures.records (rack-kept rack) c.in-ok-body.ensures.outcome.0 full)
+    as_rack (put_kept rack.table c.put.new.self (number c.in-ok-place.place) _ c.put.ensures.records (rack_kept rack) c.in-ok-body.ensures.outcome.0 full)
 
 pub returns-in-err-body : goal.returns-in-err-body
 returns-in-err-body g c =
@@ -26,13 +26,13 @@ returns-in-err-body g c =
     let a = 640 * c.number.result in
     let h = c.in-err-body.ensures.outcome in
     let e = err_from_is_err_and c.from-residual-in-err-body.result c.from-residual-in-err-body.ensures.1 in
-    let same = part-again a (a + 640 - a) memory c.read.new.weights (a + 640) (omega arith) h.1 in
-    let outcome = is-not-entered g.W.Weight.kind g.W.Written.writing (body_of t memory) p (length memory) c.args.place c.args.words.now _ c.in-ok-place.ensures.found c.in-err-body.field-0.0 h.0 (ap (body_of t) same) in
+    let same = part_again a (a + 640 - a) memory c.read.new.weights (a + 640) (omega arith) h.1 in
+    let outcome = is_not_entered g.W.Weight.kind g.W.Written.writing (body_of t memory) p (length memory) c.args.place c.args.words.now _ c.in-ok-place.ensures.found c.in-err-body.field-0.0 h.0 (ap (body_of t) same) in
     record {
       outcome = rw (e.1, e.2) outcome;
       beyond = ap (drop 10240) same;
       records = rw e.1 refl;
-      back = rw (e.1, e.2) (back-again g.W.Weight.kind g.W.Written.writing (body_of t memory) (length memory) c.args.place c.args.words.now _ _ outcome);
+      back = rw (e.1, e.2) (back_again g.W.Weight.kind g.W.Written.writing (body_of t memory) (length memory) c.args.place c.args.words.now _ _ outcome);
     }
 
 pub returns : goal.returns
@@ -43,14 +43,14 @@ returns g c =
     let a = 640 * c.number.result in
     let k = a + 640 - a in
     let long : 10240 ≤ length memory = c.in-ok-place.ensures.enough in
-    let low = number-below p in
+    let low = number_below p in
     let at : c.number.result ≡ number p = c.number.ensures in
     let full : length c.read.new.weights ≡ k = c.read.auto.weights ∙ length-between memory a (a + 640) (omega arith) in
-    let done = bodies-put t c.put.new.self p c.in-ok-body.body c.put.ensures.places a k memory c.read.new.weights (omega arith) (omega arith) (omega arith) full in
-    let outcome = is-entered g.W.Weight.kind g.W.Written.writing (body_of t memory) p (length memory) c.args.place c.args.words.now _ c.in-ok-place.ensures.found (stored c.in-ok-body.body c.read.new.weights) c.in-ok-body.ensures.outcome.1 done in
+    let done = bodies_put t c.put.new.self p c.in-ok-body.body c.put.ensures.places a k memory c.read.new.weights (omega arith) (omega arith) (omega arith) full in
+    let outcome = is_entered g.W.Weight.kind g.W.Written.writing (body_of t memory) p (length memory) c.args.place c.args.words.now _ c.in-ok-place.ensures.found (stored c.in-ok-body.body c.read.new.weights) c.in-ok-body.ensures.outcome.1 done in
     record {
       outcome = outcome;
       beyond = drop-put_mid a k memory c.read.new.weights 10240 (omega arith) (omega arith) full;
-      records = others-stay t c.put.new.self p _ c.put.ensures.places (length memory) c.args.place c.in-ok-place.ensures.found;
-      back = back-again g.W.Weight.kind g.W.Written.writing (body_of t memory) (length memory) c.args.place c.args.words.now _ _ outcome;
+      records = others_stay t c.put.new.self p _ c.put.ensures.places (length memory) c.args.place c.in-ok-place.ensures.found;
+      back = back_again g.W.Weight.kind g.W.Written.writing (body_of t memory) (length memory) c.args.place c.args.words.now _ _ outcome;
     }

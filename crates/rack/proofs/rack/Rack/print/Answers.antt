@@ -7,12 +7,12 @@ use Rattle.picture.specs.Cells.{tile}
 use Rattle.picture.specs.Pictures.{picture}
 use Rattle.picture.specs.Stored.{stored}
 use Rattle.recipe.specs.Places.{number}
-use Rattle.recipe.proofs.Numbers.{number-below}
+use Rattle.recipe.proofs.Numbers.{number_below}
 use Rattle.table.specs.Tables.{body_of}
-use Rattle.table.proofs.Bodies.{length-bay, body-in-bay, bodies-before}
+use Rattle.table.proofs.Bodies.{length_bay, body_in_bay, bodies_before}
 use Rattle.table.proofs.Keeping.{read_kept}
-use Rattle.rack.proofs.Holding.{rack-kept}
-use Rattle.rack.proofs.Outcomes.{is-printed, is-not-printed, rest-kept, front-counted, refused-kept}
+use Rattle.rack.proofs.Holding.{rack_kept}
+use Rattle.rack.proofs.Outcomes.{is_printed, is_not_printed, rest_kept, front_counted, refused_kept}
 use Rattle.rack.proofs.rack.Rack.print.Goals as goal
 
 pub whole-as-slice·own : goal.whole-as-slice·own
@@ -32,11 +32,11 @@ print-requires g c =
     let p = c.in-ok-place.place in
     let memory = c.args.memory.now in
     let long : 10240 ≤ length memory = c.in-ok-place.ensures.enough in
-    let low = number-below p in
+    let low = number_below p in
     let at : c.number.result ≡ number p = c.number.ensures in
     record {
-      kept = read_kept rack.table p c.record-body.result.now c.record-body.ensures (rack-kept rack);
-      weights = ap length c.copy-from-slice.ensures.after ∙ length-bay c.number.result memory (omega arith);
+      kept = read_kept rack.table p c.record-body.result.now c.record-body.ensures (rack_kept rack);
+      weights = ap length c.copy-from-slice.ensures.after ∙ length_bay c.number.result memory (omega arith);
       scratch = length-between memory 5120 7808 (omega arith);
     }
 
@@ -49,15 +49,15 @@ returns-in-err-count g c =
     let e = err_from_is_err_and c.from-residual-in-err-count.result c.from-residual-in-err-count.ensures.1 in
     let r = c.record-body.result.now in
     let b = stored r c.copy-from-slice.new.self in
-    let body : b ≡ body_of t memory p = ap (stored r) c.copy-from-slice.ensures.after ∙ body-in-bay t memory p r c.number.result c.record-body.ensures c.number.ensures in
+    let body : b ≡ body_of t memory p = ap (stored r) c.copy-from-slice.ensures.after ∙ body_in_bay t memory p r c.number.result c.record-body.ensures c.number.ensures in
     let scratch = c.print.new.scratch in
     let full : length scratch ≡ 2688 = c.print.auto.scratch ∙ length-between memory 5120 7808 (omega arith) in
     let k = g.W.Weight.kind in
     let f = c.in-err-count.field-0.0 in
     let h = c.in-err-count.ensures in
     record {
-      outcome = rw (e.1, e.2) (is-not-printed k g.W.Written.writing (body_of t memory) p (length memory) c.args.place b c.args.depth c.args.digits c.args.prefix c.args.cells.now c.print.new.cells _ c.in-ok-place.ensures.found body (bodies-before t 5120 2688 memory scratch (omega arith) (omega arith)) f h);
-      rest = rw e.1 (refused-kept (picture k b) c.args.depth c.args.digits c.args.prefix c.args.cells.now c.print.new.cells f h);
+      outcome = rw (e.1, e.2) (is_not_printed k g.W.Written.writing (body_of t memory) p (length memory) c.args.place b c.args.depth c.args.digits c.args.prefix c.args.cells.now c.print.new.cells _ c.in-ok-place.ensures.found body (bodies_before t 5120 2688 memory scratch (omega arith) (omega arith)) f h);
+      rest = rw e.1 (refused_kept (picture k b) c.args.depth c.args.digits c.args.prefix c.args.cells.now c.print.new.cells f h);
       beyond = drop-put_mid 5120 2688 memory scratch 10240 (omega arith) (omega arith) full;
     }
 
@@ -69,7 +69,7 @@ returns g c =
     let long : 10240 ≤ length memory = c.in-ok-place.ensures.enough in
     let r = c.record-body.result.now in
     let b = stored r c.copy-from-slice.new.self in
-    let body : b ≡ body_of t memory p = ap (stored r) c.copy-from-slice.ensures.after ∙ body-in-bay t memory p r c.number.result c.record-body.ensures c.number.ensures in
+    let body : b ≡ body_of t memory p = ap (stored r) c.copy-from-slice.ensures.after ∙ body_in_bay t memory p r c.number.result c.record-body.ensures c.number.ensures in
     let scratch = c.print.new.scratch in
     let full : length scratch ≡ 2688 = c.print.auto.scratch ∙ length-between memory 5120 7808 (omega arith) in
     let k = g.W.Weight.kind in
@@ -79,7 +79,7 @@ returns g c =
     let out' = c.print.new.cells in
     let cells = map (picture k b) (tile c.args.depth c.args.digits c.args.prefix) in
     record {
-      outcome = is-printed k g.W.Written.writing (body_of t memory) p (length memory) c.args.place b c.args.depth c.args.digits c.args.prefix out out' _ c.in-ok-place.ensures.found body (bodies-before t 5120 2688 memory scratch (omega arith) (omega arith)) count c.print.auto.cells h;
-      rest = rest-kept cells out out' count (front-counted cells out out' count c.print.auto.cells h.fits h.cells) h.cells;
+      outcome = is_printed k g.W.Written.writing (body_of t memory) p (length memory) c.args.place b c.args.depth c.args.digits c.args.prefix out out' _ c.in-ok-place.ensures.found body (bodies_before t 5120 2688 memory scratch (omega arith) (omega arith)) count c.print.auto.cells h;
+      rest = rest_kept cells out out' count (front_counted cells out out' count c.print.auto.cells h.fits h.cells) h.cells;
       beyond = drop-put_mid 5120 2688 memory scratch 10240 (omega arith) (omega arith) full;
     }

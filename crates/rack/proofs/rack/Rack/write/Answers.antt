@@ -3,13 +3,13 @@ use Rattle.std.proofs.lemmas.Result.{err_from_is_err_and}
 use Rattle.picture.specs.Stored.{stored}
 use Rattle.words.specs.Format.{words_of}
 use Rattle.recipe.specs.Places.{number}
-use Rattle.recipe.proofs.Numbers.{number-below}
+use Rattle.recipe.proofs.Numbers.{number_below}
 use Rattle.stack.specs.Waiting.{bay}
 use Rattle.table.specs.Tables.{body_of}
-use Rattle.table.proofs.Bodies.{length-bay, body-in-bay}
+use Rattle.table.proofs.Bodies.{length_bay, body_in_bay}
 use Rattle.table.proofs.Keeping.{read_kept}
-use Rattle.rack.proofs.Holding.{bodies-limited, rack-kept}
-use Rattle.rack.proofs.Outcomes.{is-written, is-not-written, enters-again, never, rest-kept}
+use Rattle.rack.proofs.Holding.{bodies_limited, rack_kept}
+use Rattle.rack.proofs.Outcomes.{is_written, is_not_written, enters_again, never, rest_kept}
 use Rattle.rack.proofs.rack.Rack.write.Goals as goal
 
 pub write-requires : goal.write-requires
@@ -18,11 +18,11 @@ write-requires g c =
     let p = c.in-ok-place.place in
     let memory = c.args.memory.now in
     let long : 10240 ≤ length memory = c.in-ok-place.ensures.enough in
-    let low = number-below p in
+    let low = number_below p in
     let at : c.number.result ≡ number p = c.number.ensures in
     record {
-      kept = read_kept rack.table p c.record-body.result.now c.record-body.ensures (rack-kept rack);
-      room = length-bay c.number.result memory (omega arith);
+      kept = read_kept rack.table p c.record-body.result.now c.record-body.ensures (rack_kept rack);
+      room = length_bay c.number.result memory (omega arith);
     }
 
 pub returns-in-err-count : goal.returns-in-err-count
@@ -33,11 +33,11 @@ returns-in-err-count g c =
     let h = c.in-err-count.ensures.outcome in
     let e = err_from_is_err_and c.from-residual-in-err-count.result c.from-residual-in-err-count.ensures.1 in
     let b = stored c.record-body.result.now (bay c.number.result memory) in
-    let body : b ≡ body_of t memory p = body-in-bay t memory p c.record-body.result.now c.number.result c.record-body.ensures c.number.ensures in
+    let body : b ≡ body_of t memory p = body_in_bay t memory p c.record-body.result.now c.number.result c.record-body.ensures c.number.ensures in
     let k = g.W.Weight.kind in
     let v = g.W.Written.writing in
     record {
-      outcome = rw (e.1, e.2) (is-not-written k v (body_of t memory) p (length memory) c.args.place b c.args.words.now c.write.new.out c.in-ok-place.ensures.found body c.in-err-count.field-0.0 h.0);
+      outcome = rw (e.1, e.2) (is_not_written k v (body_of t memory) p (length memory) c.args.place b c.args.words.now c.write.new.out c.in-ok-place.ensures.found body c.in-err-count.field-0.0 h.0);
       rest = rw e.1 h.1;
       back = λ i ok. never (sym e.1 ∙ ok);
     }
@@ -53,13 +53,13 @@ returns g c =
     let count = c.in-ok-count.count in
     let out = c.args.words.now in
     let b = stored c.record-body.result.now (bay c.number.result memory) in
-    let body : b ≡ body_of t memory p = body-in-bay t memory p c.record-body.result.now c.number.result c.record-body.ensures c.number.ensures in
+    let body : b ≡ body_of t memory p = body_in_bay t memory p c.record-body.result.now c.number.result c.record-body.ensures c.number.ensures in
     let k = g.W.Weight.kind in
     let v = g.W.Written.writing in
-    let outcome = is-written k v (body_of t memory) p (length memory) c.args.place b out c.write.new.out c.in-ok-place.ensures.found body count c.write.auto.out h in
-    let limited = bodies-limited t memory (rack-kept rack) (omega arith) in
+    let outcome = is_written k v (body_of t memory) p (length memory) c.args.place b out c.write.new.out c.in-ok-place.ensures.found body count c.write.auto.out h in
+    let limited = bodies_limited t memory (rack_kept rack) (omega arith) in
     record {
       outcome = outcome;
-      rest = rest-kept (words_of v b) out c.write.new.out count h.1 h.2;
-      back = enters-again k v (body_of t memory) limited (length memory) c.args.place (length out) c.write.new.out _ outcome;
+      rest = rest_kept (words_of v b) out c.write.new.out count h.1 h.2;
+      back = enters_again k v (body_of t memory) limited (length memory) c.args.place (length out) c.write.new.out _ outcome;
     }

@@ -1,17 +1,17 @@
 use Rattle.std.proofs.Common.{refl, arith}
-use Rattle.recipe.proofs.Moves.{got-name}
-use Rattle.recipe.proofs.Refusals.{lost-waiting, took-name}
+use Rattle.recipe.proofs.Moves.{got_name}
+use Rattle.recipe.proofs.Refusals.{lost_waiting, took_name}
 use Rattle.recipe.proofs.reader.Reader.name.Goals as goal
 
 pub returns-then-self-ge-MAX-WAITING : goal.returns-then-self-ge-MAX-WAITING
-returns-then-self-ge-MAX-WAITING c = λ l. lost-waiting _ l _ c.requires.fit c.requires.named (omega (arith, c.if-self-ge-MAX-WAITING.true))
+returns-then-self-ge-MAX-WAITING c = λ l. lost_waiting _ l _ c.requires.fit c.requires.named (omega (arith, c.if-self-ge-MAX-WAITING.true))
 
 pub push-requires : goal.push-requires
 push-requires c =
-    let h = took-name _ _ _ c.requires.fit c.requires.named refl refl refl refl refl in
+    let h = took_name _ _ _ c.requires.fit c.requires.named refl refl refl refl refl in
     record { fit = h.did.fit; room = omega (arith, c.requires.fit.room); few = omega arith }
 
 pub returns : goal.returns
 returns c = λ l.
-    let h = took-name _ _ _ c.requires.fit c.requires.named refl refl refl refl refl in
-    (got-name (omega (arith, c.if-self-ge-MAX-WAITING.false)) h c.push.ensures, tt)
+    let h = took_name _ _ _ c.requires.fit c.requires.named refl refl refl refl refl in
+    (got_name (omega (arith, c.if-self-ge-MAX-WAITING.false)) h c.push.ensures, tt)

@@ -2,7 +2,7 @@ use Rattle.std.proofs.Common.{◌≡◌, length, refl, arith}
 use Rattle.std.proofs.lemmas.List.Edits.{length-between}
 use Rattle.std.proofs.lemmas.Slice.{between_to_end}
 use Rattle.std.proofs.lemmas.Result.{err_from_is_err_and}
-use Rattle.table.proofs.Scripting.{part-carries, done_more, done-stop, done_all}
+use Rattle.table.proofs.Scripting.{part_carries, done_more, done_stop, done_all}
 use Rattle.table.proofs.table.Table.perform.Goals as goal
 
 pub line-requires : goal.line-requires
@@ -11,7 +11,7 @@ line-requires g c =
     let steps = c.args.steps.now in
     record {
       some = omega (arith, length-between steps c.loop-at.at (length steps) (omega arith));
-      carries = part-carries _ _ _ _ _ _ _ _ _ d _ (between_to_end steps c.loop-at.at (length steps) (omega arith));
+      carries = part_carries _ _ _ _ _ _ _ _ _ d _ (between_to_end steps c.loop-at.at (length steps) (omega arith));
       kept = d.kept;
       ready = d.ready;
       bays = d.long;
@@ -24,7 +24,7 @@ returns-in-err-at g c =
     let l = c.in-err-at.ensures in
     let p = err_from_is_err_and c.from-residual.result c.from-residual.ensures.1 in
     record {
-      performed = rw (p.1, p.2) (done-stop _ _ _ _ _ _ _ _ _ d _ (between_to_end steps c.loop-at.at (length steps) (omega arith)) _ c.in-err-at.field-0.0 l.lined.0 l.lined.1 l.lined.2);
+      performed = rw (p.1, p.2) (done_stop _ _ _ _ _ _ _ _ _ d _ (between_to_end steps c.loop-at.at (length steps) (omega arith)) _ c.in-err-at.field-0.0 l.lined.0 l.lined.1 l.lined.2);
       kept = l.kept;
     }
 

@@ -2,11 +2,11 @@ use Rattle.std.proofs.Common.{◌≡◌, ◌+◌, ◌-◌, ◌*◌, length, sym,
 use Rattle.picture.specs.Stored.{stored}
 use Rattle.recipe.specs.Evaluations.{put}
 use Rattle.recipe.specs.Places.{number}
-use Rattle.recipe.proofs.Numbers.{number-below}
+use Rattle.recipe.proofs.Numbers.{number_below}
 use Rattle.stack.specs.Waiting.{bodies}
 use Rattle.table.specs.Tables.{body_of}
-use Rattle.table.proofs.Bodies.{bodies-put, work-stays}
-use Rattle.table.proofs.Keeping.{put-kept}
+use Rattle.table.proofs.Bodies.{bodies_put, work_stays}
+use Rattle.table.proofs.Keeping.{put_kept}
 use Rattle.table.proofs.table.Table.store.Goals as goal
 
 pub returns : goal.returns
@@ -20,13 +20,13 @@ returns g c =
     let ys = c.copy-from-slice.new.self in
     let full : length ys ≡ a + 640 - a = ap length c.copy-from-slice.ensures.after ∙ search rules ∙ sym size in
     let from : a ≡ 640 * number p = ap (λ n. 640 * n) c.number.ensures in
-    let low = number-below p in
+    let low = number_below p in
     record {
       places =
-          bodies-put t u p c.pop-latest.result c.put.ensures.places a _ memory ys from size (omega arith) full
+          bodies_put t u p c.pop-latest.result c.put.ensures.places a _ memory ys from size (omega arith) full
           ∙ ap (λ b. put p b (body_of t memory)) (ap (stored c.pop-latest.result) c.copy-from-slice.ensures.after ∙ c.pop-latest.ensures.body);
-      waiting = ap (bodies c.pop-latest.new.self) (work-stays p a _ memory ys from size (omega arith) full) ∙ c.pop-latest.ensures.rest;
+      waiting = ap (bodies c.pop-latest.new.self) (work_stays p a _ memory ys from size (omega arith) full) ∙ c.pop-latest.ensures.rest;
       height = c.pop-latest.ensures.height;
       ready = c.pop-latest.ensures.ready;
-      kept = put-kept t u (number p) c.pop-latest.result c.put.ensures.records c.requires.kept c.pop-latest.ensures.kept (search rules);
+      kept = put_kept t u (number p) c.pop-latest.result c.put.ensures.records c.requires.kept c.pop-latest.ensures.kept (search rules);
     }

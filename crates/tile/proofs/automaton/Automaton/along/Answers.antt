@@ -1,7 +1,7 @@
 use Rattle.std.proofs.Common.{◌++◌, ap, ◌∙◌, rules}
-use Rattle.picture.specs.Cells.{base-four}
+use Rattle.picture.specs.Cells.{base_four}
 use Rattle.picture.specs.Pictures.{value}
-use Rattle.picture.specs.Steps.{at-state}
+use Rattle.picture.specs.Steps.{at_state}
 use Rattle.tile.specs.Automata.{body}
 use Rattle.tile.proofs.automaton.Automaton.along.Goals as goal
 
@@ -10,5 +10,5 @@ returns g c =
     let k = g.W.Weight.kind in
     record {
       long = search rules;
-      value = λ w. c.follow.ensures w ∙ ap (λ row. value k (body c.args.self.now) (at-state k row) (base-four c.args.digits c.args.prefix ++ w)) c.copy-from-slice.ensures.after;
+      value = λ w. c.follow.ensures w ∙ ap (λ row. value k (body c.args.self.now) (at_state k row) (base_four c.args.digits c.args.prefix ++ w)) c.copy-from-slice.ensures.after;
     }

@@ -1,10 +1,10 @@
 use Rattle.std.proofs.Common.{◌≡◌, ◌+◌, ◌*◌, ◌≤◌, length, ◌∙◌, ap₂, arith, rules}
 use borrow.Author.Rules.{scaled_fits≤}
 use Rattle.tile.specs.Automata.{body}
-use Rattle.tile.specs.Bands.{cells-in-row}
-use Rattle.tile.proofs.Joins.{length-slot}
-use Rattle.tile.proofs.Squares.{part_room, part-long, part-written}
-use Rattle.tile.proofs.Tops.{bands-all}
+use Rattle.tile.specs.Bands.{cells_in_row}
+use Rattle.tile.proofs.Joins.{length_slot}
+use Rattle.tile.proofs.Squares.{part_room, part_long, part_written}
+use Rattle.tile.proofs.Tops.{bands_all}
 use Rattle.tile.proofs.automaton.Automaton.bands.Goals as goal
 
 pub offset-bounds-cells-y : goal.offset-bounds-cells-y
@@ -28,7 +28,7 @@ band-requires g c =
       y = omega (arith, c.side-count.ensures);
       way = c.loop-y.invariant.2 ∙ c.requires.way;
       rows = c.loop-y.invariant.1 ∙ c.requires.rows;
-      cells = length-slot size c.loop-y.y c.loop-y.cells room ∙ ap₂ ◌*◌ c.side.ensures c.side-2.ensures;
+      cells = length_slot size c.loop-y.y c.loop-y.cells room ∙ ap₂ ◌*◌ c.side.ensures c.side-2.ensures;
     }
 
 pub loop-y-preserved : goal.loop-y-preserved
@@ -36,14 +36,14 @@ loop-y-preserved g c =
     let size = c.side.result * c.side-2.result in
     let room = part_room c.loop-y.y _ _ c.side-count.result size _ c.side-count.ensures (ap₂ ◌*◌ c.side.ensures c.side-2.ensures) (c.loop-y.invariant.0 ∙ c.requires.cells) c.loop-y-test.true in
     let long : length c.band.new.cells ≡ size = search rules in (
-      part-long c.loop-y.y size c.loop-y.cells _ room long ∙ c.loop-y.invariant.0,
+      part_long c.loop-y.y size c.loop-y.cells _ room long ∙ c.loop-y.invariant.0,
       search rules,
       search rules,
-      part-written _ c.loop-y.y size c.loop-y.cells _ room long c.loop-y.invariant.3 c.band.ensures,
+      part_written _ c.loop-y.y size c.loop-y.cells _ room long c.loop-y.invariant.3 c.band.ensures,
     )
 
 pub returns : goal.returns
 returns g c =
     let k = g.W.Weight.kind in
-    bands-all (cells-in-row k (body c.args.self.now) c.args.row.now (c.args.coarse + c.args.fine)) c.args.coarse c.args.fine c.loop-y.y c.side-count.result _ c.loop-y.cells
+    bands_all (cells_in_row k (body c.args.self.now) c.args.row.now (c.args.coarse + c.args.fine)) c.args.coarse c.args.fine c.loop-y.y c.side-count.result _ c.loop-y.cells
     (omega arith) c.side-count.ensures (ap₂ ◌*◌ c.side.ensures c.side-2.ensures) (c.loop-y.invariant.0 ∙ c.requires.cells) c.loop-y.invariant.3

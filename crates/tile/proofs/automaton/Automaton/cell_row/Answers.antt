@@ -1,7 +1,7 @@
 use Rattle.std.proofs.Common.{◌≡◌, ◌+◌, ◌-◌, ◌/◌, ◌^◌, sym, refl, ap, ◌∙◌, arith, rules}
 use Rattle.tile.specs.Automata.{body, edges}
-use Rattle.tile.specs.Bands.{cells-in-row}
-use Rattle.tile.proofs.Meets.{length-columns, line-is}
+use Rattle.tile.specs.Bands.{cells_in_row}
+use Rattle.tile.proofs.Meets.{length_columns, line_is}
 use Rattle.tile.proofs.automaton.Automaton.cell_row.Goals as goal
 
 pub line-requires : goal.line-requires
@@ -11,7 +11,7 @@ line-requires g c =
     record {
       few = omega arith;
       rows = search rules;
-      columns = length-columns g.W.Weight.kind (edges a) a.states a.last.now _ c.min-fine.result c.requires.ready.sound.lasts c.prepare-rows.ensures.columns;
+      columns = length_columns g.W.Weight.kind (edges a) a.states a.last.now _ c.min-fine.result c.requires.ready.sound.lasts c.prepare-rows.ensures.columns;
       cells = c.requires.cells ∙ ap (λ d. 2 ^ d) whole;
     }
 
@@ -19,6 +19,6 @@ pub returns : goal.returns
 returns g c =
     let a = c.args.self.now in
     let whole : c.args.depth - c.min-fine.result + c.min-fine.result ≡ c.args.depth = omega arith in
-    line-is g.met.W.Weight.laws (body a) c.requires.ready.sound c.args.row.now c.requires.row (c.args.depth - c.min-fine.result) c.min-fine.result (c.args.y / 2 ^ c.min-fine.result) _ _ _
+    line_is g.met.W.Weight.laws (body a) c.requires.ready.sound c.args.row.now c.requires.row (c.args.depth - c.min-fine.result) c.min-fine.result (c.args.y / 2 ^ c.min-fine.result) _ _ _
     c.args.y (omega arith) refl c.carry.ensures c.prepare-rows.ensures.columns c.line.ensures
-    ∙ ap (λ d. cells-in-row g.W.Weight.kind (body a) c.args.row.now d c.args.y) whole
+    ∙ ap (λ d. cells_in_row g.W.Weight.kind (body a) c.args.row.now d c.args.y) whole

@@ -3,23 +3,23 @@ use borrow.Author.Rules.{scaled_fits≤}
 use Rattle.std.proofs.lemmas.List.FromFn.{length-map-range_with_len}
 use Rattle.picture.specs.Steps.{spreads}
 use Rattle.tile.specs.Automata.{edges}
-use Rattle.tile.proofs.Joins.{length-slot}
-use Rattle.tile.proofs.Lifts.{four-le, lift-slot, lift-room, lift-small, lift-all}
-use Rattle.tile.proofs.Squares.{part-long, part-written}
+use Rattle.tile.proofs.Joins.{length_slot}
+use Rattle.tile.proofs.Lifts.{four_le, lift_slot, lift_room, lift_small, lift_all}
+use Rattle.tile.proofs.Squares.{part_long, part_written}
 use Rattle.tile.proofs.automaton.Automaton.lift.Goals as goal
 
 -- the part for one column is small, and lies within the room
 small : (g : _) (c : goal.After-slot-column g) → c.loop-c.c * c.args.self.now.states + c.args.self.now.states ≤ 1024
-small g c = lift-small c.loop-c.c c.args.digits c.power-count.result c.args.self.now.states c.power-count.ensures c.requires.few c.loop-c-test.true c.requires.ready.few
+small g c = lift_small c.loop-c.c c.args.digits c.power-count.result c.args.self.now.states c.power-count.ensures c.requires.few c.loop-c-test.true c.requires.ready.few
 
 room : (g : _) (c : goal.After-slot-column g) → c.loop-c.c * c.args.self.now.states + c.args.self.now.states ≤ length c.args.longer.now
-room g c = lift-room c.loop-c.c c.args.digits c.power-count.result c.args.self.now.states _ c.power-count.ensures c.loop-c-test.true c.requires.longer
+room g c = lift_room c.loop-c.c c.args.digits c.power-count.result c.args.self.now.states _ c.power-count.ensures c.loop-c-test.true c.requires.longer
 
 pub overflow-mul-c-end : goal.overflow-mul-c-end
-overflow-mul-c-end g c = let h = four-le c.args.digits c.requires.few in omega (arith, c.power-count.ensures)
+overflow-mul-c-end g c = let h = four_le c.args.digits c.requires.few in omega (arith, c.power-count.ensures)
 
 pub slot-column-requires : goal.slot-column-requires
-slot-column-requires g c = lift-slot c.loop-c.c c.args.digits c.power-count.result c.args.self.now.states _ c.power-count.ensures c.requires.columns
+slot-column-requires g c = lift_slot c.loop-c.c c.args.digits c.power-count.result c.args.self.now.states _ c.power-count.ensures c.requires.columns
 
 pub overflow-mul-next : goal.overflow-mul-next
 overflow-mul-next g c = omega (arith, small g c)
@@ -44,18 +44,18 @@ step-column-requires g c =
     record {
       ready = c.requires.ready;
       column = ap length c.slot-column.ensures
-          ∙ length-slot n _ _ (lift-slot c.loop-c.c c.args.digits c.power-count.result n _ c.power-count.ensures c.requires.columns);
-      next = length-slot n c.loop-c.c c.loop-c.longer (let h = lift-room c.loop-c.c c.args.digits c.power-count.result n _ c.power-count.ensures c.loop-c-test.true c.requires.longer in omega (arith, c.loop-c.invariant.0));
+          ∙ length_slot n _ _ (lift_slot c.loop-c.c c.args.digits c.power-count.result n _ c.power-count.ensures c.requires.columns);
+      next = length_slot n c.loop-c.c c.loop-c.longer (let h = lift_room c.loop-c.c c.args.digits c.power-count.result n _ c.power-count.ensures c.loop-c-test.true c.requires.longer in omega (arith, c.loop-c.invariant.0));
     }
 
 pub loop-c-preserved : goal.loop-c-preserved
 loop-c-preserved g c =
     let a = c.args.self.now in
     let k = g.W.Weight.kind in
-    let room = lift-room c.loop-c.c c.args.digits c.power-count.result a.states _ c.power-count.ensures c.loop-c-test.true (c.loop-c.invariant.0 ∙ c.requires.longer) in
+    let room = lift_room c.loop-c.c c.args.digits c.power-count.result a.states _ c.power-count.ensures c.loop-c-test.true (c.loop-c.invariant.0 ∙ c.requires.longer) in
     let long = ap length c.step-column.ensures ∙ length-map-range_with_len _ 0 a.states in (
-      part-long c.loop-c.c a.states c.loop-c.longer _ room long ∙ c.loop-c.invariant.0,
-      part-written _ c.loop-c.c a.states c.loop-c.longer _ room long c.loop-c.invariant.1
+      part_long c.loop-c.c a.states c.loop-c.longer _ room long ∙ c.loop-c.invariant.0,
+      part_written _ c.loop-c.c a.states c.loop-c.longer _ room long c.loop-c.invariant.1
           (c.step-column.ensures ∙ ap₂ (spreads k (edges a) a.states) c.slot-column.ensures c.named.ensures),
     )
 
@@ -64,4 +64,4 @@ returns g c =
     let a = c.args.self.now in
     let k = g.W.Weight.kind in
     let done : c.loop-c.c ≡ 4 * c.power-count.result = omega arith in
-    lift-all k (edges a) a.states c.args.columns.now c.args.digits _ _ _ c.power-count.ensures done (c.loop-c.invariant.0 ∙ c.requires.longer) c.loop-c.invariant.1
+    lift_all k (edges a) a.states c.args.columns.now c.args.digits _ _ _ c.power-count.ensures done (c.loop-c.invariant.0 ∙ c.requires.longer) c.loop-c.invariant.1

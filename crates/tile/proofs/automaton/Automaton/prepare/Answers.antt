@@ -1,21 +1,21 @@
 use Rattle.std.proofs.Common.{◌≡◌, ◌*◌, ◌^◌, ap, ◌∙◌, arith, rules}
 use Rattle.std.proofs.lemmas.List.{length-take-le}
-use Rattle.tile.proofs.Squares.{columns-small, rows-small}
+use Rattle.tile.proofs.Squares.{columns_small, rows_small}
 use Rattle.tile.proofs.automaton.Automaton.prepare.Goals as goal
 
 pub overflow-mul-columns : goal.overflow-mul-columns
-overflow-mul-columns g c = let h = columns-small c.args.fine c.args.self.now.states (omega arith) c.requires.ready.few in omega (arith, ap (λ m. m * c.args.self.now.states) c.power.ensures)
+overflow-mul-columns g c = let h = columns_small c.args.fine c.args.self.now.states (omega arith) c.requires.ready.few in omega (arith, ap (λ m. m * c.args.self.now.states) c.power.ensures)
 
 pub slice-bounds-columns-end : goal.slice-bounds-columns-end
-slice-bounds-columns-end g c = let h = columns-small c.args.fine c.args.self.now.states (omega arith) c.requires.ready.few in omega (arith, ap (λ m. m * c.args.self.now.states) c.power.ensures)
+slice-bounds-columns-end g c = let h = columns_small c.args.fine c.args.self.now.states (omega arith) c.requires.ready.few in omega (arith, ap (λ m. m * c.args.self.now.states) c.power.ensures)
 
 pub slice-bounds-rows-end : goal.slice-bounds-rows-end
-slice-bounds-rows-end g c = let h = rows-small c.args.coarse c.args.self.now.states (omega arith) c.requires.ready.few in omega (arith, ap (λ m. m * c.args.self.now.states) c.side.ensures)
+slice-bounds-rows-end g c = let h = rows_small c.args.coarse c.args.self.now.states (omega arith) c.requires.ready.few in omega (arith, ap (λ m. m * c.args.self.now.states) c.side.ensures)
 
 pub returns : goal.returns
 returns g c =
     let n = c.args.self.now.states in
-    let small = rows-small c.args.coarse n (omega arith) c.requires.ready.few in
+    let small = rows_small c.args.coarse n (omega arith) c.requires.ready.few in
     let same : c.side.result * n ≡ 2 ^ c.args.coarse * n = ap (λ m. m * n) c.side.ensures in
     record {
       columns = c.columns.ensures;

@@ -1,35 +1,35 @@
 use Rattle.std.proofs.Common.{arith}
 use Rattle.std.proofs.lemmas.Result.{err_from_is_err_and}
-use Rattle.words.specs.Inner.{states-in}
-use Rattle.words.proofs.Rows.{states-more, states-done, length-states-in}
-use Rattle.words.proofs.Stopping.{states-stop-first, states-stop-last}
-use Rattle.words.proofs.Taking.{took-fits}
+use Rattle.words.specs.Inner.{states_in}
+use Rattle.words.proofs.Rows.{states_more, states_done, length_states_in}
+use Rattle.words.proofs.Stopping.{states_stop_first, states_stop_last}
+use Rattle.words.proofs.Taking.{took_fits}
 use Rattle.words.proofs.reader.Reader.states.Goals as goal
 
 pub weight-requires : goal.weight-requires
-weight-requires g c = record { narrow = c.requires.narrow; fits = took-fits c.loop-q.invariant c.requires.fits }
+weight-requires g c = record { narrow = c.requires.narrow; fits = took_fits c.loop-q.invariant c.requires.fits }
 
 pub returns-in-err-weights : goal.returns-in-err-weights
 returns-in-err-weights g c =
     let q = c.loop-q.q in
     let count = g.met.W.Written.words.count c.requires.narrow in
     let p = err_from_is_err_and c.from-residual.result c.from-residual.ensures.1 in
-    rw (p.1, p.2) (states-stop-first g.W.Written.writing c.args.n count (states-in q c.loop-q.weights) q c.loop-q-test.true (length-states-in q c.loop-q.weights (omega arith) (omega arith)) c.loop-q.invariant
+    rw (p.1, p.2) (states_stop_first g.W.Written.writing c.args.n count (states_in q c.loop-q.weights) q c.loop-q-test.true (length_states_in q c.loop-q.weights (omega arith) (omega arith)) c.loop-q.invariant
     _ c.in-err-weights.ensures)
 
 pub weight-requires-in-loop-q : goal.weight-requires-in-loop-q
-weight-requires-in-loop-q g c = record { narrow = c.requires.narrow; fits = took-fits c.in-ok-weights.ensures (took-fits c.loop-q.invariant c.requires.fits) }
+weight-requires-in-loop-q g c = record { narrow = c.requires.narrow; fits = took_fits c.in-ok-weights.ensures (took_fits c.loop-q.invariant c.requires.fits) }
 
 pub returns-in-err-weights-2 : goal.returns-in-err-weights-2
 returns-in-err-weights-2 g c =
     let q = c.loop-q.q in
     let count = g.met.W.Written.words.count c.requires.narrow in
     let p = err_from_is_err_and c.from-residual-in-err-weights-2.result c.from-residual-in-err-weights-2.ensures.1 in
-    rw (p.1, p.2) (states-stop-last g.W.Written.writing c.args.n count (states-in q c.loop-q.weights) q c.loop-q-test.true (length-states-in q c.loop-q.weights (omega arith) (omega arith)) c.loop-q.invariant
+    rw (p.1, p.2) (states_stop_last g.W.Written.writing c.args.n count (states_in q c.loop-q.weights) q c.loop-q-test.true (length_states_in q c.loop-q.weights (omega arith) (omega arith)) c.loop-q.invariant
     c.in-ok-weights.field-0 _ c.in-ok-weights.ensures c.in-err-weights-2.ensures)
 
 pub loop-q-preserved : goal.loop-q-preserved
-loop-q-preserved g c = states-more g.W.Written.writing c.loop-q.q c.loop-q.weights _ _ (omega arith) (omega arith) c.loop-q.invariant c.in-ok-weights.ensures c.in-ok-weights-2.ensures
+loop-q-preserved g c = states_more g.W.Written.writing c.loop-q.q c.loop-q.weights _ _ (omega arith) (omega arith) c.loop-q.invariant c.in-ok-weights.ensures c.in-ok-weights-2.ensures
 
 pub returns : goal.returns
-returns g c = states-done g.W.Written.writing c.loop-q.q c.args.n c.loop-q.weights (omega arith) c.loop-q.invariant
+returns g c = states_done g.W.Written.writing c.loop-q.q c.args.n c.loop-q.weights (omega arith) c.loop-q.invariant

@@ -1,5 +1,5 @@
 use Rattle.std.proofs.Common.{sym, refl, ◌∙◌, arith}
-use Rattle.words.proofs.Taking.{too_short, front-is}
+use Rattle.words.proofs.Taking.{too_short, front_is}
 use Rattle.words.proofs.reader.Reader.weight.Goals as goal
 
 pub returns-then-self-c : goal.returns-then-self-c
@@ -8,4 +8,4 @@ returns-then-self-c g c =
 
 pub returns-in-default : goal.returns-in-default
 returns-in-default g c =
-    (refl, λ v rest e. c.in-default.ensures v (c.requires.narrow, sym (front-is _ rest _ _ (g.met.W.Written.words.count c.requires.narrow v) e) ∙ (cc)))
+    (refl, λ v rest e. c.in-default.ensures v (c.requires.narrow, sym (front_is _ rest _ _ (g.met.W.Written.words.count c.requires.narrow v) e) ∙ (cc)))
