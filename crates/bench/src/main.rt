@@ -1,4 +1,6 @@
 //! What a full tile costs: multiply-adds by count, and with the argument `time` the time beside plain evaluation.
+#![tactic(auto)]
+
 mod body;
 mod timing;
 mod work;

@@ -1,4 +1,6 @@
 //! The rules of the five calls on eight bodies, the book of pictures, and that every list of calls agrees with it.
+#![tactic(auto)]
+
 mod refusal;
 mod theorems;
 

@@ -1,4 +1,6 @@
 //! Operations on bodies in memory that the caller lends: sum, turn, mirror and zoom.
+#![tactic(auto)]
+
 mod digits;
 mod layout;
 mod limits;

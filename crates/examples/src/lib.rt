@@ -1,4 +1,6 @@
 //! The worked examples: theorems about the definitions, and tests that run the code.
+#![tactic(auto)]
+
 ghost use Rattle.examples.specs.Examples.{Examples};
 
 #[cfg(test)]

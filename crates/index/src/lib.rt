@@ -1,4 +1,6 @@
 //! The arcs of a body by digit and one of their ends, and the steps of rows and columns by such an index.
+#![tactic(auto)]
+
 mod index;
 mod steps;
 

@@ -1,4 +1,6 @@
 //! Shows drawings that are given as words, and recipes.
+#![tactic(auto)]
+
 mod compositions;
 mod drawings;
 mod embedded;

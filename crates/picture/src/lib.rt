@@ -1,4 +1,6 @@
 //! Pictures over quadrant addresses, and the weighted automata that store them.
+#![tactic(auto)]
+
 mod body;
 mod quadrant;
 mod theorems;

@@ -1,4 +1,6 @@
 //! The piecing of four bodies in memory that the caller lends.
+#![tactic(auto)]
+
 mod entries;
 mod piecing;
 mod rows;

@@ -4,6 +4,8 @@
 //! joined by '+', a product is parts joined by '*', both carried out from the left. A part is a place; or '@', '|', or
 //! '^' and a digit 0 to 3, each followed by a part; or a sum in round brackets; or four sums in square brackets,
 //! separated by ','.
+#![tactic(auto)]
+
 mod fault;
 mod limits;
 mod place;

@@ -1,4 +1,6 @@
 //! The bodies that wait while a line is carried out, in working bays.
+#![tactic(auto)]
+
 mod fault;
 mod operations;
 mod stack;

@@ -1,4 +1,6 @@
 //! Rows of weights, taken through the arcs of a body.
+#![tactic(auto)]
+
 mod rows;
 
 pub use rows::{advance, meet};

@@ -1,4 +1,6 @@
 //! The table of place records, and steps carried out on it.
+#![tactic(auto)]
+
 mod drawing;
 mod table;
 

@@ -1,4 +1,6 @@
 //! Cells and tiles of a body in lent memory.
+#![tactic(auto)]
+
 mod automaton;
 mod bands;
 mod cells;

@@ -1,4 +1,6 @@
 //! Kinds of weight: semirings whose laws each implementation proves, and how their values are written.
+#![tactic(auto)]
+
 mod grey;
 mod height;
 mod ink;

@@ -1,4 +1,6 @@
 //! A body as words: reading, writing, and the round trip.
+#![tactic(auto)]
+
 mod arc;
 mod fault;
 mod head;
