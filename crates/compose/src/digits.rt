@@ -58,7 +58,7 @@ fn displace<W: Weight>(a: &Record, weights: &[W], motion: Motion, out: &mut [W])
     requires room { length out.old ≡ 640 }
     ensures body { stored result out.new ≡ redirected_body (becoming motion) (stored a.now weights.now) }
     ensures kept { Kept result }
-    ensures shows { Shows kind (stored result out.new) (replaced (replacement motion) (picture kind (stored a.now weights.now))) }
+    ensures shows { Shows W.kind (stored result out.new) (replaced (replacement motion) (picture W.kind (stored a.now weights.now))) }
 {
     let m = a.count as usize;
     let old = &a.arcs[..];
@@ -80,7 +80,7 @@ pub fn turn<W: Weight>(a: &Record, weights: &[W], out: &mut [W]) -> Record
     requires room { length out.old ≡ 640 }
     ensures body { stored result out.new ≡ turned_body (stored a.now weights.now) }
     ensures kept { Kept result }
-    ensures shows { Shows kind (stored result out.new) (turned_picture (picture kind (stored a.now weights.now))) }
+    ensures shows { Shows W.kind (stored result out.new) (turned_picture (picture W.kind (stored a.now weights.now))) }
 {
     displace(a, weights, Motion::Turn, out)
 }
@@ -92,7 +92,7 @@ pub fn mirror<W: Weight>(a: &Record, weights: &[W], out: &mut [W]) -> Record
     requires room { length out.old ≡ 640 }
     ensures body { stored result out.new ≡ mirrored_body (stored a.now weights.now) }
     ensures kept { Kept result }
-    ensures shows { Shows kind (stored result out.new) (mirrored_picture (picture kind (stored a.now weights.now))) }
+    ensures shows { Shows W.kind (stored result out.new) (mirrored_picture (picture W.kind (stored a.now weights.now))) }
 {
     displace(a, weights, Motion::Mirror, out)
 }

@@ -43,7 +43,7 @@ pub fn over_limit(states: usize, arcs: usize) -> Option<Fault>
 
 /// Why a product of so many states and arcs is refused: on a kind that does not exchange every product is.
 pub fn product_fault<W: Weight>(states: usize, arcs: usize) -> Option<Fault>
-    ensures { result ≡ product_excess kind states arcs }
+    ensures { result ≡ product_excess W.kind states arcs }
 {
     if !W::exchanges() {
         return Some(Fault::NoExchange);

@@ -27,7 +27,7 @@ pub fn add<W: Weight>(
     requires room_b { length back.now ≡ 640 }
     requires room { length out.old ≡ 640 }
     ensures body { Outcome (over_limit (sum_body (stored a.now front.now) (stored b.now back.now))) (sum_body (stored a.now front.now) (stored b.now back.now)) out.old out.new result }
-    ensures shows { IfOk result (λ c. Shows kind (stored c out.new) (sum_picture kind (picture kind (stored a.now front.now)) (picture kind (stored b.now back.now)))) }
+    ensures shows { IfOk result (λ c. Shows W.kind (stored c out.new) (sum_picture W.kind (picture W.kind (stored a.now front.now)) (picture W.kind (stored b.now back.now)))) }
 {
     let na = a.states as usize;
     let nb = b.states as usize;

@@ -15,9 +15,9 @@ pub fn zoom<W: Weight>(a: &Record, weights: &[W], quadrant: Quadrant, out: &mut 
     requires kept { Kept a.now }
     requires room_a { length weights.now ≡ 640 }
     requires room { length out.old ≡ 640 }
-    ensures body { stored result out.new ≡ zoomed_body kind quadrant (stored a.now weights.now) }
+    ensures body { stored result out.new ≡ zoomed_body W.kind quadrant (stored a.now weights.now) }
     ensures kept { Kept result }
-    ensures shows { Shows kind (stored result out.new) (zoomed_picture quadrant (picture kind (stored a.now weights.now))) }
+    ensures shows { Shows W.kind (stored result out.new) (zoomed_picture quadrant (picture W.kind (stored a.now weights.now))) }
 {
     let n = a.states as usize;
     let m = a.count as usize;

@@ -26,7 +26,7 @@ pub fn step_row<W: Weight>(
     requires states { length row.now ≤ 64 }
     requires ends { All (Within (length row.now)) arcs.now }
     requires below { length next.old ≤ 64 }
-    ensures { next.new ≡ map (gathered kind (zip arcs.now weights.now) (at_state kind row.now) quadrant) (range_with_len 0 (length next.old)) }
+    ensures { next.new ≡ map (gathered W.kind (zip arcs.now weights.now) (at_state W.kind row.now) quadrant) (range_with_len 0 (length next.old)) }
 {
     for (q, entry) in next.iter_mut().enumerate() {
         *entry = gather_row(arcs, weights, row, index.places(quadrant, q));
@@ -47,7 +47,7 @@ pub fn step_column<W: Weight>(
     requires states { length column.now ≤ 64 }
     requires ends { All (Within (length column.now)) arcs.now }
     requires below { length next.old ≤ 64 }
-    ensures { next.new ≡ map (spread kind (zip arcs.now weights.now) (at_state kind column.now) quadrant) (range_with_len 0 (length next.old)) }
+    ensures { next.new ≡ map (spread W.kind (zip arcs.now weights.now) (at_state W.kind column.now) quadrant) (range_with_len 0 (length next.old)) }
 {
     for (p, entry) in next.iter_mut().enumerate() {
         *entry = gather_column(arcs, weights, column, index.places(quadrant, p));
@@ -59,7 +59,7 @@ fn gather_row<W: Weight>(arcs: &[Arc], weights: &[W], row: &[W], places: &[u16])
     requires within { (i : ℕ) → i < length places.now → slice_index places.now i < length arcs.now }
     requires weighted { length weights.now ≡ length arcs.now }
     requires ends { (i : ℕ) → i < length arcs.now → Within (length row.now) (slice_index_or arcs.now i none) }
-    ensures { result ≡ total kind places.now (λ i. row_term kind (at_state kind row.now) (edge_at kind arcs.now weights.now i)) }
+    ensures { result ≡ total W.kind places.now (λ i. row_term W.kind (at_state W.kind row.now) (edge_at W.kind arcs.now weights.now i)) }
 {
     let mut found = W::zero();
     for place in places {
@@ -75,7 +75,7 @@ fn gather_column<W: Weight>(arcs: &[Arc], weights: &[W], column: &[W], places: &
     requires within { (i : ℕ) → i < length places.now → slice_index places.now i < length arcs.now }
     requires weighted { length weights.now ≡ length arcs.now }
     requires ends { (i : ℕ) → i < length arcs.now → Within (length column.now) (slice_index_or arcs.now i none) }
-    ensures { result ≡ total kind places.now (λ i. column_term kind (at_state kind column.now) (edge_at kind arcs.now weights.now i)) }
+    ensures { result ≡ total W.kind places.now (λ i. column_term W.kind (at_state W.kind column.now) (edge_at W.kind arcs.now weights.now i)) }
 {
     let mut found = W::zero();
     for place in places {

@@ -36,7 +36,7 @@ fn enter<W: Weight>(
     requires states { s + part.now.states ≤ 64 }
     requires long { length arcs.old ≡ part.now.states + part.now.count }
     requires wide { length products.old ≡ part.now.states + part.now.count }
-    ensures { zip arcs.new products.new ≡ part_arcs kind s quadrant (stored part.now weights.now) }
+    ensures { zip arcs.new products.new ≡ part_arcs W.kind s quadrant (stored part.now weights.now) }
 {
     let n = part.states as usize;
     let m = part.count as usize;
@@ -65,7 +65,7 @@ fn enter_two<W: Weight>(
     requires states { s + a.now.states + b.now.states ≤ 64 }
     requires long { length arcs.old ≡ a.now.states + a.now.count + (b.now.states + b.now.count) }
     requires wide { length products.old ≡ a.now.states + a.now.count + (b.now.states + b.now.count) }
-    ensures { zip arcs.new products.new ≡ part_arcs kind s d (stored a.now front.now) ++ part_arcs kind (s + a.now.states) e (stored b.now back.now) }
+    ensures { zip arcs.new products.new ≡ part_arcs W.kind s d (stored a.now front.now) ++ part_arcs W.kind (s + a.now.states) e (stored b.now back.now) }
 {
     let x = a.states as usize + a.count as usize;
     let y = b.states as usize + b.count as usize;
@@ -104,7 +104,7 @@ pub(crate) fn enter_four<W: Weight>(
     requires states { 1 + a.now.states + b.now.states + c.now.states + d.now.states ≤ 64 }
     requires long { length arcs.old ≡ a.now.states + a.now.count + (b.now.states + b.now.count) + (c.now.states + c.now.count + (d.now.states + d.now.count)) }
     requires wide { length products.old ≡ a.now.states + a.now.count + (b.now.states + b.now.count) + (c.now.states + c.now.count + (d.now.states + d.now.count)) }
-    ensures { zip arcs.new products.new ≡ (pieced_body kind (four_stored a.now wa.now b.now wb.now c.now wc.now d.now wd.now)).arcs }
+    ensures { zip arcs.new products.new ≡ (pieced_body W.kind (four_stored a.now wa.now b.now wb.now c.now wc.now d.now wd.now)).arcs }
 {
     let x = a.states as usize + a.count as usize + (b.states as usize + b.count as usize);
     let y = c.states as usize + c.count as usize + (d.states as usize + d.count as usize);

@@ -35,8 +35,8 @@ pub fn piece<W: Weight>(
     requires room_c { length wc.now ≡ 640 }
     requires room_d { length wd.now ≡ 640 }
     requires room { length out.old ≡ 640 }
-    ensures body { Outcome (over_limit (pieced_body kind (four_stored a.now wa.now b.now wb.now c.now wc.now d.now wd.now))) (pieced_body kind (four_stored a.now wa.now b.now wb.now c.now wc.now d.now wd.now)) out.old out.new result }
-    ensures shows { IfOk result (λ p. Shows kind (stored p out.new) (pieced_picture kind (four (picture kind (stored a.now wa.now)) (picture kind (stored b.now wb.now)) (picture kind (stored c.now wc.now)) (picture kind (stored d.now wd.now))))) }
+    ensures body { Outcome (over_limit (pieced_body W.kind (four_stored a.now wa.now b.now wb.now c.now wc.now d.now wd.now))) (pieced_body W.kind (four_stored a.now wa.now b.now wb.now c.now wc.now d.now wd.now)) out.old out.new result }
+    ensures shows { IfOk result (λ p. Shows W.kind (stored p out.new) (pieced_picture W.kind (four (picture W.kind (stored a.now wa.now)) (picture W.kind (stored b.now wb.now)) (picture W.kind (stored c.now wc.now)) (picture W.kind (stored d.now wd.now))))) }
 {
     let na = a.states as usize;
     let nb = b.states as usize;

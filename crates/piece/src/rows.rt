@@ -8,7 +8,7 @@ use weight::Weight;
 /// One for the new state, then zeros.
 pub(crate) fn write_firsts<W: Weight>(out: &mut [W])
     requires { 0 < length out.old }
-    ensures { out.new ≡ kind.one ∷ replicate (length out.old - 1) kind.zero }
+    ensures { out.new ≡ W.kind.one ∷ replicate (length out.old - 1) W.kind.zero }
 {
     for i in 0..out.len() {
         out[i] = W::zero();
@@ -30,7 +30,7 @@ fn join_four<W: Weight>(a: &[W], b: &[W], c: &[W], d: &[W], out: &mut [W])
 /// The last weight of the new state, then those of the parts.
 pub(crate) fn write_lasts<W: Weight>(a: &[W], b: &[W], c: &[W], d: &[W], out: &mut [W])
     requires { length out.old ≡ 1 + (length a.now + length b.now + (length c.now + length d.now)) }
-    ensures { out.new ≡ whole_value kind ∷ ((a.now ++ b.now) ++ (c.now ++ d.now)) }
+    ensures { out.new ≡ whole_value W.kind ∷ ((a.now ++ b.now) ++ (c.now ++ d.now)) }
 {
     let n = a.len() + b.len() + (c.len() + d.len());
     out[0] = whole_value();

@@ -5,7 +5,7 @@ use weight::Weight;
 
 /// The value of a piecing at the empty address.
 pub(crate) fn whole_value<W: Weight>() -> W
-    ensures { result ≡ whole_value kind }
+    ensures { result ≡ whole_value W.kind }
 {
     W::zero()
 }

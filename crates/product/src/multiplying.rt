@@ -26,8 +26,8 @@ pub fn multiply<W: Weight>(
     requires room_a { length front.now ≡ 640 }
     requires room_b { length back.now ≡ 640 }
     requires room { length out.old ≡ 640 }
-    ensures body { Outcome (product_fault kind (product_body kind (stored a.now front.now) (stored b.now back.now))) (product_body kind (stored a.now front.now) (stored b.now back.now)) out.old out.new result }
-    ensures shows { IfOk result (λ c. Shows kind (stored c out.new) (product_picture kind (picture kind (stored a.now front.now)) (picture kind (stored b.now back.now)))) }
+    ensures body { Outcome (product_fault W.kind (product_body W.kind (stored a.now front.now) (stored b.now back.now))) (product_body W.kind (stored a.now front.now) (stored b.now back.now)) out.old out.new result }
+    ensures shows { IfOk result (λ c. Shows W.kind (stored c out.new) (product_picture W.kind (picture W.kind (stored a.now front.now)) (picture W.kind (stored b.now back.now)))) }
 {
     let na = a.states as usize;
     let nb = b.states as usize;

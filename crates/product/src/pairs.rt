@@ -10,7 +10,7 @@ use weight::Weight;
 /// Each of `xs` times each of `ys`.
 pub(crate) fn pair_weights<W: Weight>(xs: &[W], ys: &[W], out: &mut [W])
     requires { length out.old ≡ length xs.now * length ys.now }
-    ensures { out.new ≡ paired kind.times xs.now ys.now }
+    ensures { out.new ≡ paired W.kind.times xs.now ys.now }
 {
     for i in 0..out.len() {
         out[i] = xs[i / ys.len()].times(ys[i % ys.len()]);
@@ -29,10 +29,10 @@ fn pair_arc<W: Weight>(
     products: &mut [W],
 ) -> usize
     requires long { length out.old ≡ length products.old }
-    requires room { start + length (flat_map (arc_pair kind states (arc, weight)) (zip others.now factors.now)) ≤ length out.old }
+    requires room { start + length (flat_map (arc_pair W.kind states (arc, weight)) (zip others.now factors.now)) ≤ length out.old }
     requires small { All (λ e. Within 256 (pair_ends states arc e.0)) (zip others.now factors.now) }
-    ensures number { result ≡ start + length (flat_map (arc_pair kind states (arc, weight)) (zip others.now factors.now)) }
-    ensures arcs { zip (take result out.new) (take result products.new) ≡ zip (take start out.old) (take start products.old) ++ flat_map (arc_pair kind states (arc, weight)) (zip others.now factors.now) }
+    ensures number { result ≡ start + length (flat_map (arc_pair W.kind states (arc, weight)) (zip others.now factors.now)) }
+    ensures arcs { zip (take result out.new) (take result products.new) ≡ zip (take start out.old) (take start products.old) ++ flat_map (arc_pair W.kind states (arc, weight)) (zip others.now factors.now) }
 {
     let mut k = start;
     for (other, factor) in others.iter().zip(factors) {
@@ -60,9 +60,9 @@ pub(crate) fn pair_arcs<W: Weight>(
     products: &mut [W],
 )
     requires long { length out.old ≡ length products.old }
-    requires room { length (arc_pairs kind states (zip arcs.now weights.now) (zip others.now factors.now)) ≡ length out.old }
+    requires room { length (arc_pairs W.kind states (zip arcs.now weights.now) (zip others.now factors.now)) ≡ length out.old }
     requires small { All (λ e. All (λ f. Within 256 (pair_ends states e.0 f.0)) (zip others.now factors.now)) (zip arcs.now weights.now) }
-    ensures { zip out.new products.new ≡ arc_pairs kind states (zip arcs.now weights.now) (zip others.now factors.now) }
+    ensures { zip out.new products.new ≡ arc_pairs W.kind states (zip arcs.now weights.now) (zip others.now factors.now) }
 {
     let mut k = 0;
     for (arc, weight) in arcs.iter().zip(weights) {

@@ -49,10 +49,10 @@ impl<W: Written> Rack<W> {
 
     /// Puts the body of these words on a place.
     pub fn enter(&mut self, memory: &mut [W], place: usize, words: &[u32]) -> Result<usize, Refusal>
-        ensures outcome { Rules W.Weight.kind W.Written.writing (places self.old memory.old) (length memory.old) (Enter place words.now) (came_to result Nothing (places self.new memory.new)) }
+        ensures outcome { Rules W.kind W.writing (places self.old memory.old) (length memory.old) (Enter place words.now) (came_to result Nothing (places self.new memory.new)) }
         ensures beyond { drop 10240 memory.new ≡ drop 10240 memory.old }
         ensures records { OnlyAt place self.old self.new result }
-        ensures back { (i : ℕ) → result ≡ Ok i → WritesBack W.Weight.kind W.Written.writing (places self.new memory.new) place words.now }
+        ensures back { (i : ℕ) → result ≡ Ok i → WritesBack W.kind W.writing (places self.new memory.new) place words.now }
     {
         let place = find(memory.len(), place)?;
         let at = BAY * place.number() as usize;
@@ -64,7 +64,7 @@ impl<W: Written> Rack<W> {
 
     /// Makes a place blank.
     pub fn clear(&mut self, memory: &[W], place: usize) -> Result<usize, Refusal>
-        ensures outcome { Rules W.Weight.kind W.Written.writing (places self.old memory.now) (length memory.now) (Clear place) (came_to result Nothing (places self.new memory.now)) }
+        ensures outcome { Rules W.kind W.writing (places self.old memory.now) (length memory.now) (Clear place) (came_to result Nothing (places self.new memory.now)) }
         ensures records { OnlyAt place self.old self.new result }
     {
         let place = find(memory.len(), place)?;
@@ -74,9 +74,9 @@ impl<W: Written> Rack<W> {
 
     /// Writes the words of a place's body, and answers how many.
     pub fn write(&self, memory: &[W], place: usize, words: &mut [u32]) -> Result<usize, Refusal>
-        ensures outcome { Rules W.Weight.kind W.Written.writing (places self.now memory.now) (length memory.now) (Write place (length words.old)) (came_to result (words_out result words.new) (places self.now memory.now)) }
+        ensures outcome { Rules W.kind W.writing (places self.now memory.now) (length memory.now) (Write place (length words.old)) (came_to result (words_out result words.new) (places self.now memory.now)) }
         ensures rest { drop (amount result) words.new ≡ drop (amount result) words.old }
-        ensures back { (i : ℕ) → result ≡ Ok i → EntersAs W.Weight.kind W.Written.writing (places self.now memory.now) place (take i words.new) }
+        ensures back { (i : ℕ) → result ≡ Ok i → EntersAs W.kind W.writing (places self.now memory.now) place (take i words.new) }
     {
         let place = find(memory.len(), place)?;
         let at = BAY * place.number() as usize;
@@ -95,7 +95,7 @@ impl<W: Written> Rack<W> {
         prefix: usize,
         cells: &mut [W],
     ) -> Result<usize, Refusal>
-        ensures outcome { Rules W.Weight.kind W.Written.writing (places self.now memory.old) (length memory.old) (Print place depth digits prefix (length cells.old)) (came_to result (cells_out result cells.new) (places self.now memory.new)) }
+        ensures outcome { Rules W.kind W.writing (places self.now memory.old) (length memory.old) (Print place depth digits prefix (length cells.old)) (came_to result (cells_out result cells.new) (places self.now memory.new)) }
         ensures rest { drop (amount result) cells.new ≡ drop (amount result) cells.old }
         ensures beyond { drop 10240 memory.new ≡ drop 10240 memory.old }
     {

@@ -13,7 +13,7 @@ impl<W: Written> Rack<W> {
     /// Reads a script whole, and carries it out.
     fn perform(&mut self, memory: &mut [W], script: &[u8]) -> Result<usize, RunFault>
         requires { length memory.old ≡ 10240 }
-        ensures outcome { Runs W.Weight.kind W.Written.writing (places self.old memory.old) script.now (came_to (run_answer result) Nothing (places self.new memory.new)) }
+        ensures outcome { Runs W.kind W.writing (places self.old memory.old) script.now (came_to (run_answer result) Nothing (places self.new memory.new)) }
         ensures records { KeptUnread self.old self.new (run_answer result) }
     {
         let recipe = recipe::read(script)?;
@@ -23,10 +23,10 @@ impl<W: Written> Rack<W> {
 
     /// Carries out a script, and answers how many lines it has.
     pub fn run(&mut self, memory: &mut [W], script: &[u8]) -> Result<usize, Refusal>
-        ensures outcome { Rules W.Weight.kind W.Written.writing (places self.old memory.old) (length memory.old) (Run script.now) (came_to result Nothing (places self.new memory.new)) }
+        ensures outcome { Rules W.kind W.writing (places self.old memory.old) (length memory.old) (Run script.now) (came_to result Nothing (places self.new memory.new)) }
         ensures beyond { drop 10240 memory.new ≡ drop 10240 memory.old }
         ensures records { KeptUnread self.old self.new result }
-        ensures alike { (i : ℕ) (t : trees.Tree trees.script) → result ≡ Ok i → trees.text t ≡ script.now → PrintsAlike W.Weight.kind W.Written.writing (places self.old memory.old) (places self.new memory.new) (length memory.old) t }
+        ensures alike { (i : ℕ) (t : trees.Tree trees.script) → result ≡ Ok i → trees.text t ≡ script.now → PrintsAlike W.kind W.writing (places self.old memory.old) (places self.new memory.new) (length memory.old) t }
     {
         if memory.len() < MEMORY {
             return Err(Refusal::ShortMemory);

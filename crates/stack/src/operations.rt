@@ -48,7 +48,7 @@ impl Stack {
         requires ready { Ready self.old }
         requires some { 1 ≤ self.old.height }
         requires bays { length work.old ≡ 3840 }
-        ensures bodies { bodies self.new work.new ≡ zoomed_body kind quadrant (body_at (bodies self.old work.old) 0) ∷ drop 1 (bodies self.old work.old) }
+        ensures bodies { bodies self.new work.new ≡ zoomed_body W.kind quadrant (body_at (bodies self.old work.old) 0) ∷ drop 1 (bodies self.old work.old) }
         ensures height { self.new.height ≡ self.old.height }
         ensures ready { Ready self.new }
     {
@@ -65,7 +65,7 @@ impl Stack {
         requires ready { Ready self.old }
         requires two { 2 ≤ self.old.height }
         requires bays { length work.old ≡ 3840 }
-        ensures drawn { Drawn ((drawing kind).add mark (body_at (bodies self.old work.old) 1) (body_at (bodies self.old work.old) 0)) (drop 2 (bodies self.old work.old)) (bodies self.new work.new) result }
+        ensures drawn { Drawn ((drawing W.kind).add mark (body_at (bodies self.old work.old) 1) (body_at (bodies self.old work.old) 0)) (drop 2 (bodies self.old work.old)) (bodies self.new work.new) result }
         ensures height { OnOk result (self.new.height ≡ self.old.height - 1) }
         ensures ready { Ready self.new }
     {
@@ -85,7 +85,7 @@ impl Stack {
         requires ready { Ready self.old }
         requires two { 2 ≤ self.old.height }
         requires bays { length work.old ≡ 3840 }
-        ensures drawn { Drawn ((drawing kind).multiply mark (body_at (bodies self.old work.old) 1) (body_at (bodies self.old work.old) 0)) (drop 2 (bodies self.old work.old)) (bodies self.new work.new) result }
+        ensures drawn { Drawn ((drawing W.kind).multiply mark (body_at (bodies self.old work.old) 1) (body_at (bodies self.old work.old) 0)) (drop 2 (bodies self.old work.old)) (bodies self.new work.new) result }
         ensures height { OnOk result (self.new.height ≡ self.old.height - 1) }
         ensures ready { Ready self.new }
     {
@@ -105,7 +105,7 @@ impl Stack {
         requires ready { Ready self.old }
         requires four { 4 ≤ self.old.height }
         requires bays { length work.old ≡ 3840 }
-        ensures drawn { Drawn ((drawing kind).piece mark (body_at (bodies self.old work.old) 3) (body_at (bodies self.old work.old) 2) (body_at (bodies self.old work.old) 1) (body_at (bodies self.old work.old) 0)) (drop 4 (bodies self.old work.old)) (bodies self.new work.new) result }
+        ensures drawn { Drawn ((drawing W.kind).piece mark (body_at (bodies self.old work.old) 3) (body_at (bodies self.old work.old) 2) (body_at (bodies self.old work.old) 1) (body_at (bodies self.old work.old) 0)) (drop 4 (bodies self.old work.old)) (bodies self.new work.new) result }
         ensures height { OnOk result (self.new.height ≡ self.old.height - 3) }
         ensures ready { Ready self.new }
     {

@@ -10,7 +10,7 @@ use weight::Weight;
 /// row's weight at the arc's start times the arc's.
 fn gather<W: Weight>(arcs: &[Arc], weights: &[W], row: &[W], quadrant: Quadrant, q: usize) -> W
     requires { All (λ e. e.0.from < length row.now) (zip arcs.now weights.now) }
-    ensures { result ≡ gathered kind (zip arcs.now weights.now) (at_state kind row.now) quadrant q }
+    ensures { result ≡ gathered W.kind (zip arcs.now weights.now) (at_state W.kind row.now) quadrant q }
 {
     let mut sum = W::zero();
     for (arc, weight) in arcs.iter().zip(weights) {
@@ -30,7 +30,7 @@ pub fn advance<W: Weight>(
     next: &mut [W],
 )
     requires { All (λ e. e.0.from < length row.now) (zip arcs.now weights.now) }
-    ensures { next.new ≡ stepped kind (zip arcs.now weights.now) (length next.old) row.now quadrant }
+    ensures { next.new ≡ stepped W.kind (zip arcs.now weights.now) (length next.old) row.now quadrant }
 {
     for q in 0..next.len() {
         next[q] = gather(arcs, weights, row, quadrant, q);
@@ -40,7 +40,7 @@ pub fn advance<W: Weight>(
 /// A row times a column.
 pub fn meet<W: Weight>(row: &[W], column: &[W]) -> W
     requires { length row.now ≡ length column.now }
-    ensures { result ≡ total kind (range_with_len 0 (length row.now)) (λ q. kind.times (at_state kind row.now q) (at_state kind column.now q)) }
+    ensures { result ≡ total W.kind (range_with_len 0 (length row.now)) (λ q. W.kind.times (at_state W.kind row.now q) (at_state W.kind column.now q)) }
 {
     let mut sum = W::zero();
     for q in 0..row.len() {

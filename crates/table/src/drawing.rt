@@ -29,7 +29,7 @@ fn operate<W: Weight>(step: Step, stack: &mut Stack, work: &mut [W]) -> Result<(
     requires fits { Fits step stack.old.height }
     requires ready { Ready stack.old }
     requires bays { length work.old ≡ 3840 }
-    ensures stepped { (at : Place → Body W) → Stepped kind at step (bodies stack.old work.old) (bodies stack.new work.new) result }
+    ensures stepped { (at : Place → Body W) → Stepped W.kind at step (bodies stack.old work.old) (bodies stack.new work.new) result }
     ensures height { OnOk result (stack.new.height ≡ left_waiting step stack.old.height) }
     ensures ready { Ready stack.new }
 {
@@ -98,7 +98,7 @@ impl Table {
         requires kept { AllKept self.now }
         requires ready { Ready stack.old }
         requires bays { length memory.old ≡ 10240 }
-        ensures stepped { Stepped kind (body_of self.now memory.old) step (waiting_in stack.old memory.old) (waiting_in stack.new memory.new) result }
+        ensures stepped { Stepped W.kind (body_of self.now memory.old) step (waiting_in stack.old memory.old) (waiting_in stack.new memory.new) result }
         ensures places { body_of self.now memory.new ≡ body_of self.now memory.old }
         ensures height { OnOk result (stack.new.height ≡ left_waiting step stack.old.height) }
         ensures ready { Ready stack.new }
@@ -123,7 +123,7 @@ impl Table {
         requires kept { AllKept self.old }
         requires ready { Ready stack.old }
         requires bays { length memory.old ≡ 10240 }
-        ensures lined { Lined kind (body_of self.old memory.old) number steps.now (body_of self.new memory.new) (waiting_in stack.old memory.old) (waiting_in stack.new memory.new) result }
+        ensures lined { Lined W.kind (body_of self.old memory.old) number steps.now (body_of self.new memory.new) (waiting_in stack.old memory.old) (waiting_in stack.new memory.new) result }
         ensures carries { IfOk result (λ n. Carries stack.new.height (drop n steps.now) 0) }
         ensures kept { AllKept self.new }
         ensures ready { Ready stack.new }
@@ -150,7 +150,7 @@ impl Table {
         requires carries { Carries 0 steps.now 0 }
         requires kept { AllKept self.old }
         requires bays { length memory.old ≡ 10240 }
-        ensures performed { Performed (carry (drawing kind) steps.now [] (body_of self.old memory.old)) (body_of self.new memory.new) result }
+        ensures performed { Performed (carry (drawing W.kind) steps.now [] (body_of self.old memory.old)) (body_of self.new memory.new) result }
         ensures kept { AllKept self.new }
     {
         let mut stack = Stack::new();

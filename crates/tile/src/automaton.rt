@@ -53,7 +53,7 @@ impl<'a, W: Weight> Automaton<'a, W> {
         requires ready { Ready self.now }
         requires row { length row.now ≡ self.now.states }
         requires next { length next.old ≡ self.now.states }
-        ensures { next.new ≡ stepped kind (edges self.now) self.now.states row.now quadrant }
+        ensures { next.new ≡ stepped W.kind (edges self.now) self.now.states row.now quadrant }
     {
         step_row(&self.into, self.arcs, self.weights, row, quadrant, next);
     }
@@ -63,7 +63,7 @@ impl<'a, W: Weight> Automaton<'a, W> {
         requires ready { Ready self.now }
         requires column { length column.now ≡ self.now.states }
         requires next { length next.old ≡ self.now.states }
-        ensures { next.new ≡ spreads kind (edges self.now) self.now.states column.now quadrant }
+        ensures { next.new ≡ spreads W.kind (edges self.now) self.now.states column.now quadrant }
     {
         step_column(
             &self.out_of,

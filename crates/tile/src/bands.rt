@@ -18,7 +18,7 @@ impl<W: Weight> Automaton<'_, W> {
         requires deep { depth ≤ 6 }
         requires way { length way.old ≡ 64 * depth }
         requires rows { length rows.old ≡ 2 ^ depth * self.now.states }
-        ensures { rows.new ≡ rows_along kind (edges self.now) self.now.states row.now depth y }
+        ensures { rows.new ≡ rows_along W.kind (edges self.now) self.now.states row.now depth y }
     {
         if depth == 0 {
             rows.copy_from_slice(row);
@@ -48,14 +48,14 @@ impl<W: Weight> Automaton<'_, W> {
     )
         requires ready { Ready self.now }
         requires row { length row.now ≡ self.now.states }
-        requires columns { columns.now ≡ columns_along kind (edges self.now) self.now.states self.now.last.now fine }
+        requires columns { columns.now ≡ columns_along W.kind (edges self.now) self.now.states self.now.last.now fine }
         requires coarse { coarse ≤ 4 }
         requires fine { fine ≤ 2 }
         requires y { y < 2 ^ coarse }
         requires way { length way.old ≡ 64 * coarse }
         requires rows { length rows.old ≡ 2 ^ coarse * self.now.states }
         requires cells { length cells.old ≡ 2 ^ fine * 2 ^ (coarse + fine) }
-        ensures { cells.new ≡ flat_map (λ i. cells_in_row kind (body self.now) row.now (coarse + fine) (y * 2 ^ fine + i)) (range_with_len 0 (2 ^ fine)) }
+        ensures { cells.new ≡ flat_map (λ i. cells_in_row W.kind (body self.now) row.now (coarse + fine) (y * 2 ^ fine + i)) (range_with_len 0 (2 ^ fine)) }
     {
         self.carry(row, coarse, y, way, rows);
         let high = side(fine);
@@ -79,13 +79,13 @@ impl<W: Weight> Automaton<'_, W> {
     )
         requires ready { Ready self.now }
         requires row { length row.now ≡ self.now.states }
-        requires columns { columns.now ≡ columns_along kind (edges self.now) self.now.states self.now.last.now fine }
+        requires columns { columns.now ≡ columns_along W.kind (edges self.now) self.now.states self.now.last.now fine }
         requires coarse { coarse ≤ 4 }
         requires fine { fine ≤ 2 }
         requires way { length way.old ≡ 64 * coarse }
         requires rows { length rows.old ≡ 2 ^ coarse * self.now.states }
         requires cells { length cells.old ≡ 2 ^ coarse * (2 ^ fine * 2 ^ (coarse + fine)) }
-        ensures { cells.new ≡ flat_map (cells_in_row kind (body self.now) row.now (coarse + fine)) (range_with_len 0 (2 ^ (coarse + fine))) }
+        ensures { cells.new ≡ flat_map (cells_in_row W.kind (body self.now) row.now (coarse + fine)) (range_with_len 0 (2 ^ (coarse + fine))) }
     {
         let size = side(fine) * side(coarse + fine);
         let count = side(coarse);

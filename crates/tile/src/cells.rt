@@ -34,7 +34,7 @@ pub(crate) fn line<W: Weight>(
     requires rows { length rows.now ≡ 2 ^ coarse * states }
     requires columns { length columns.now ≡ 4 ^ fine * states }
     requires cells { length cells.old ≡ 2 ^ (coarse + fine) }
-    ensures { cells.new ≡ map (λ x. bands.meeting kind states (bands.slot states (x / 2 ^ fine) rows.now) (bands.slot states (bands.interleaved fine x y) columns.now)) (range_with_len 0 (2 ^ (coarse + fine))) }
+    ensures { cells.new ≡ map (λ x. bands.meeting W.kind states (bands.slot states (x / 2 ^ fine) rows.now) (bands.slot states (bands.interleaved fine x y) columns.now)) (range_with_len 0 (2 ^ (coarse + fine))) }
 {
     for x in 0..cells.len() {
         let row = slot(rows, x >> fine, states);

@@ -19,7 +19,7 @@ impl<W: Weight> Automaton<'_, W> {
         requires few { digits ≤ 1 }
         requires columns { length columns.now ≡ 4 ^ digits * self.now.states }
         requires longer { length longer.old ≡ 4 ^ (digits + 1) * self.now.states }
-        ensures { longer.new ≡ flat_map (λ c. spreads kind (edges self.now) self.now.states (slot self.now.states (c % 4 ^ digits) columns.now) (named (c / 4 ^ digits))) (range_with_len 0 (4 ^ (digits + 1))) }
+        ensures { longer.new ≡ flat_map (λ c. spreads W.kind (edges self.now) self.now.states (slot self.now.states (c % 4 ^ digits) columns.now) (named (c / 4 ^ digits))) (range_with_len 0 (4 ^ (digits + 1))) }
     {
         let n = self.states;
         let count = power(digits);
@@ -37,7 +37,7 @@ impl<W: Weight> Automaton<'_, W> {
         requires column { length column.now ≡ self.now.states }
         requires spare { length spare.old ≡ 256 }
         requires columns { length columns.old ≡ 4 ^ digits * self.now.states }
-        ensures { columns.new ≡ columns_along kind (edges self.now) self.now.states column.now digits }
+        ensures { columns.new ≡ columns_along W.kind (edges self.now) self.now.states column.now digits }
     {
         match digits {
             0 => columns.copy_from_slice(column),

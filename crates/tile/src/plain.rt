@@ -20,7 +20,7 @@ fn travel<W: Weight>(
 )
     requires ends { All (λ e. e.0.from < length row.old) (zip arcs.now weights.now) }
     requires next { length next.old ≡ length row.old }
-    ensures { row.new ≡ carried kind (zip arcs.now weights.now) (length row.old) address.now row.old }
+    ensures { row.new ≡ carried W.kind (zip arcs.now weights.now) (length row.old) address.now row.old }
 {
     for quadrant in address {
         advance(arcs, weights, row, *quadrant, next);
@@ -33,7 +33,7 @@ pub fn cell<W: Weight>(place: &Record, weights: &[W], address: &[Quadrant], scra
     requires kept { Kept place.now }
     requires weights { length weights.now ≡ 640 }
     requires scratch { length scratch.old ≡ 128 }
-    ensures { result ≡ picture kind (stored place.now weights.now) address.now }
+    ensures { result ≡ picture W.kind (stored place.now weights.now) address.now }
 {
     let n = place.states as usize;
     let m = place.count as usize;

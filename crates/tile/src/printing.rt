@@ -68,7 +68,7 @@ pub fn print<'a, W: Weight>(
     requires kept { Kept place.now }
     requires weights { length weights.now ≡ 640 }
     requires scratch { length scratch.old ≡ 2688 }
-    ensures { Outcome (picture kind (stored place.now weights.now)) depth digits prefix cells.old cells.new result }
+    ensures { Outcome (picture W.kind (stored place.now weights.now)) depth digits prefix cells.old cells.new result }
 {
     let Some(deep) = tile_depth(depth, digits, prefix) else {
         return Err(Fault::NoTile);
@@ -98,7 +98,7 @@ pub fn print_row<'a, W: Weight>(
     requires kept { Kept place.now }
     requires weights { length weights.now ≡ 640 }
     requires scratch { length scratch.old ≡ 2688 }
-    ensures { RowOutcome (picture kind (stored place.now weights.now)) depth digits prefix y cells.old cells.new result }
+    ensures { RowOutcome (picture W.kind (stored place.now weights.now)) depth digits prefix y cells.old cells.new result }
 {
     let Some(deep) = tile_depth(depth, digits, prefix) else {
         return Err(Fault::NoTile);

@@ -27,7 +27,7 @@ impl<W: Weight> Automaton<'_, W> {
         requires row { length row.old ≡ self.now.states }
         requires next { length next.old ≡ self.now.states }
         requires few { digits ≤ 12 }
-        ensures { (w : Address) → value kind (body self.now) (at_state kind row.new) w ≡ value kind (body self.now) (at_state kind row.old) (base_four digits prefix ++ w) }
+        ensures { (w : Address) → value W.kind (body self.now) (at_state W.kind row.new) w ≡ value W.kind (body self.now) (at_state W.kind row.old) (base_four digits prefix ++ w) }
     {
         let mut left = digits;
         while left > 0 {
@@ -43,7 +43,7 @@ impl<W: Weight> Automaton<'_, W> {
         requires few { digits ≤ 12 }
         requires room { length room.old ≡ 128 }
         ensures long { length result.now ≡ self.now.states }
-        ensures value { (w : Address) → value kind (body self.now) (at_state kind result.now) w ≡ picture kind (body self.now) (base_four digits prefix ++ w) }
+        ensures value { (w : Address) → value W.kind (body self.now) (at_state W.kind result.now) w ≡ picture W.kind (body self.now) (base_four digits prefix ++ w) }
     {
         let (first, second) = room.split_at_mut(MAX_STATES);
         let row = &mut first[0..self.states];
@@ -63,7 +63,7 @@ impl<W: Weight> Automaton<'_, W> {
         requires coarse { coarse ≤ 4 }
         requires fine { fine ≤ 2 }
         requires scratch { length scratch.old ≡ 2560 }
-        ensures columns { result.0.now ≡ columns_along kind (edges self.now) self.now.states self.now.last.now fine }
+        ensures columns { result.0.now ≡ columns_along W.kind (edges self.now) self.now.states self.now.last.now fine }
         ensures rows { length result.1.now ≡ 2 ^ coarse * self.now.states }
         ensures way { length result.2.now ≡ 64 * coarse }
     {
@@ -86,7 +86,7 @@ impl<W: Weight> Automaton<'_, W> {
         requires deep { depth ≤ 6 }
         requires scratch { length scratch.old ≡ 2560 }
         requires cells { length cells.old ≡ 2 ^ depth * 2 ^ depth }
-        ensures { cells.new ≡ flat_map (cells_in_row kind (body self.now) row.now depth) (range_with_len 0 (2 ^ depth)) }
+        ensures { cells.new ≡ flat_map (cells_in_row W.kind (body self.now) row.now depth) (range_with_len 0 (2 ^ depth)) }
     {
         let fine = depth.min(FINE);
         let coarse = depth - fine;
@@ -108,7 +108,7 @@ impl<W: Weight> Automaton<'_, W> {
         requires deep { depth ≤ 6 }
         requires scratch { length scratch.old ≡ 2560 }
         requires cells { length cells.old ≡ 2 ^ depth }
-        ensures { cells.new ≡ cells_in_row kind (body self.now) row.now depth y }
+        ensures { cells.new ≡ cells_in_row W.kind (body self.now) row.now depth y }
     {
         let fine = depth.min(FINE);
         let coarse = depth - fine;

@@ -6,7 +6,7 @@ use crate::kind::Weight;
 
 /// The sum of a row of weights.
 pub fn total<W: Weight>(weights: &[W]) -> W
-    ensures { result ≡ sums.total kind weights.now (λ w. w) }
+    ensures { result ≡ sums.total W.kind weights.now (λ w. w) }
 {
     let mut sum = W::zero();
     for weight in weights {
@@ -17,7 +17,7 @@ pub fn total<W: Weight>(weights: &[W]) -> W
 
 /// The product of a row of weights, in their order.
 pub fn product<W: Weight>(weights: &[W]) -> W
-    ensures { result ≡ sums.product kind weights.now }
+    ensures { result ≡ sums.product W.kind weights.now }
 {
     let mut factors = W::one();
     for weight in weights {
@@ -28,5 +28,5 @@ pub fn product<W: Weight>(weights: &[W]) -> W
 
 /// Two sums may be exchanged, and a factor distributes over a sum.
 pub fn sum_laws<W: Weight, A, B>()
-    ensures { SumLaws {W = W} kind A B }
+    ensures { SumLaws {W = W} W.kind A B }
 {}

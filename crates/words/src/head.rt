@@ -15,7 +15,7 @@ pub(crate) struct Counts {
 
 /// The head word of n states and m arcs.
 pub(crate) fn head_word<W: Written>(n: u8, m: u16) -> u32
-    ensures { result ≡ head_word writing n m }
+    ensures { result ≡ head_word W.writing n m }
 {
     0x1000_0000
         + W::code() * 0x100_0000
@@ -26,7 +26,7 @@ pub(crate) fn head_word<W: Written>(n: u8, m: u16) -> u32
 
 /// The counts of a head word within the limits.
 pub(crate) fn read_head<W: Written>(head: u32) -> Result<Counts, Fault>
-    ensures { MatchResult result (λ s. (s.states ≤ 64) × (s.arcs ≤ 512) × (head ≡ head_word writing s.states s.arcs)) (λ f. (f ≡ Head) × ((n m : ℕ) → n ≤ 64 → m ≤ 512 → head ≢ head_word writing n m)) }
+    ensures { MatchResult result (λ s. (s.states ≤ 64) × (s.arcs ≤ 512) × (head ≡ head_word W.writing s.states s.arcs)) (λ f. (f ≡ Head) × ((n m : ℕ) → n ≤ 64 → m ≤ 512 → head ≢ head_word W.writing n m)) }
 {
     let states = ((head >> 12) % 0x80) as u8;
     let arcs = (head % 0x1000) as u16;

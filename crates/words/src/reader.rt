@@ -53,9 +53,9 @@ impl Reader<'_> {
 
     /// The next weight.
     fn weight<W: Written>(&mut self) -> Result<W, WeightFault>
-        requires narrow { writing.width < 9 }
+        requires narrow { W.writing.width < 9 }
         requires fits { Fits self.old }
-        ensures { MatchResult result (λ v. Took (writing.words v) self.old self.new) (λ f. (f.word.index ≡ self.old.position) × NoWeight {W = W} writing self.old.rest.now) }
+        ensures { MatchResult result (λ v. Took (W.writing.words v) self.old self.new) (λ f. (f.word.index ≡ self.old.position) × NoWeight {W = W} W.writing self.old.rest.now) }
     {
         let wrong = WeightFault {
             word: WordFault {
@@ -77,11 +77,11 @@ impl Reader<'_> {
 
     /// The first and last weights of n states.
     fn states<W: Written>(&mut self, n: usize, weights: &mut [W]) -> Result<(), WeightFault>
-        requires narrow { writing.width < 9 }
+        requires narrow { W.writing.width < 9 }
         requires few { n ≤ 64 }
         requires room { length weights.old ≡ 640 }
         requires fits { Fits self.old }
-        ensures { MatchResult result (λ _. Took (flat_map (state_words writing) (states_in n weights.new)) self.old self.new) (λ f. FirstWrong {W = W} writing n (state_pieces n) self.old.rest.now self.old.position (WrongWeight f)) }
+        ensures { MatchResult result (λ _. Took (flat_map (state_words W.writing) (states_in n weights.new)) self.old self.new) (λ f. FirstWrong {W = W} W.writing n (state_pieces n) self.old.rest.now self.old.position (WrongWeight f)) }
     {
         for q in 0..n {
             weights[q] = self.weight()?;
@@ -97,10 +97,10 @@ impl Reader<'_> {
         arcs: &mut [Arc],
         weights: &mut [W],
     ) -> Result<(), PieceFault>
-        requires narrow { writing.width < 9 }
+        requires narrow { W.writing.width < 9 }
         requires room { length arcs.old ≡ length weights.old }
         requires fits { Fits self.old }
-        ensures { MatchResult result (λ _. All (Within n) arcs.new × Took (flat_map (edge_words writing) (zip arcs.new weights.new)) self.old self.new) (FirstWrong {W = W} writing n (arc_pieces (length weights.old)) self.old.rest.now self.old.position) }
+        ensures { MatchResult result (λ _. All (Within n) arcs.new × Took (flat_map (edge_words W.writing) (zip arcs.new weights.new)) self.old self.new) (FirstWrong {W = W} W.writing n (arc_pieces (length weights.old)) self.old.rest.now self.old.position) }
     {
         for k in 0..arcs.len() {
             arcs[k] = self.arc(n)?;
@@ -115,12 +115,12 @@ impl Reader<'_> {
         counts: Counts,
         weights: &mut [W],
     ) -> Result<Record, PieceFault>
-        requires narrow { writing.width < 9 }
+        requires narrow { W.writing.width < 9 }
         requires few_states { counts.states ≤ 64 }
         requires few_arcs { counts.arcs ≤ 512 }
         requires room { length weights.old ≡ 640 }
         requires fits { Fits self.old }
-        ensures { MatchResult result (ReadBody writing counts weights.new self.old self.new) (FirstWrong {W = W} writing counts.states (state_pieces counts.states ++ arc_pieces counts.arcs) self.old.rest.now self.old.position) }
+        ensures { MatchResult result (ReadBody W.writing counts weights.new self.old self.new) (FirstWrong {W = W} W.writing counts.states (state_pieces counts.states ++ arc_pieces counts.arcs) self.old.rest.now self.old.position) }
     {
         self.states(counts.states as usize, weights)?;
         let m = counts.arcs as usize;

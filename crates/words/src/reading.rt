@@ -13,7 +13,7 @@ use weight::{TOO_WIDE, Written};
 /// Reads a body from its words into the record that is returned and 640 weights, which a refusal may change.
 fn parse<W: Written>(given: &[u32], weights: &mut [W]) -> Result<Record, Fault>
     requires { length weights.old ≡ 640 }
-    ensures { MatchResult result (λ place. Kept place × SpellsBody writing (stored place weights.new) given.now) (Refused {W = W} writing given.now) }
+    ensures { MatchResult result (λ place. Kept place × SpellsBody W.writing (stored place weights.new) given.now) (Refused {W = W} W.writing given.now) }
 {
     let c = W::width();
     if c >= TOO_WIDE {
@@ -35,9 +35,9 @@ fn parse<W: Written>(given: &[u32], weights: &mut [W]) -> Result<Record, Fault>
 /// Reads a body from its words into the record that is returned and 640 weights, which a refusal leaves as they were.
 pub fn read<W: Written>(given: &[u32], weights: &mut [W]) -> Result<Record, Fault>
     requires { length weights.old ≡ 640 }
-    ensures outcome { ReadInto writing given.now weights.old weights.new result }
-    ensures accepts { Accepts writing given.now weights.new result }
-    ensures refuses { Refuses {W = W} writing given.now result }
+    ensures outcome { ReadInto W.writing given.now weights.old weights.new result }
+    ensures accepts { Accepts W.writing given.now weights.new result }
+    ensures refuses { Refuses {W = W} W.writing given.now result }
 {
     let mut scratch = [W::zero(); BAY];
     let all = &mut scratch[..];

@@ -17,8 +17,8 @@ pub fn rewrite<W: Written>(
     out: &mut [u32],
 ) -> Result<usize, TripFault>
     requires { length weights.old ≡ 640 }
-    ensures outcome { Rewritten writing given.now out.old out.new weights.old weights.new result }
-    ensures held { HeldUnlessUnread writing given.now weights.new result }
+    ensures outcome { Rewritten W.writing given.now out.old out.new weights.old weights.new result }
+    ensures held { HeldUnlessUnread W.writing given.now weights.new result }
 {
     let place = read(given, weights)?;
     let count = write(&place, weights, out)?;
@@ -35,7 +35,7 @@ pub fn reread<W: Written>(
     requires kept { Kept place.now }
     requires room { length weights.now ≡ 640 }
     requires more { length others.old ≡ 640 }
-    ensures { Reread writing (stored place.now weights.now) out.old out.new others.old others.new result }
+    ensures { Reread W.writing (stored place.now weights.now) out.old out.new others.old others.new result }
 {
     let count = write(place, weights, out)?;
     let Ok(other) = read(&out[0..count], others) else {
@@ -46,9 +46,9 @@ pub fn reread<W: Written>(
 
 /// Equal words mean equal bodies, words with a fault are those of no body and have one fault, and words have their fields at their bits.
 pub fn words_are_one<W: Written>()
-    ensures body { OneBody {W = W} writing }
-    ensures none { NoBody {W = W} writing }
-    ensures fault { OneFault {W = W} writing }
-    ensures heads { HeadLayout {W = W} writing }
+    ensures body { OneBody {W = W} W.writing }
+    ensures none { NoBody {W = W} W.writing }
+    ensures fault { OneFault {W = W} W.writing }
+    ensures heads { HeadLayout {W = W} W.writing }
     ensures arcs { ArcLayout }
 {}

@@ -14,9 +14,9 @@ use weight::{TOO_WIDE, Written};
 
 /// Writes the words of a weight.
 fn write_weight<W: Written>(value: W, out: &mut [u32])
-    requires narrow { writing.width < 9 }
-    requires long { length out.old ≡ writing.width }
-    ensures { out.new ≡ writing.words value }
+    requires narrow { W.writing.width < 9 }
+    requires long { length out.old ≡ W.writing.width }
+    ensures { out.new ≡ W.writing.words value }
 {
     for i in 0..out.len() {
         out[i] = value.word(i);
@@ -25,11 +25,11 @@ fn write_weight<W: Written>(value: W, out: &mut [u32])
 
 /// Writes the words of n states.
 fn write_states<W: Written>(weights: &[W], n: usize, out: &mut [u32])
-    requires narrow { writing.width < 9 }
+    requires narrow { W.writing.width < 9 }
     requires few { n ≤ 64 }
     requires room { length weights.now ≡ 640 }
-    requires long { length out.old ≡ n * (2 * writing.width) }
-    ensures { out.new ≡ flat_map (state_words writing) (states_in n weights.now) }
+    requires long { length out.old ≡ n * (2 * W.writing.width) }
+    ensures { out.new ≡ flat_map (state_words W.writing) (states_in n weights.now) }
 {
     let c = W::width();
     let mut at = 0;
@@ -42,10 +42,10 @@ fn write_states<W: Written>(weights: &[W], n: usize, out: &mut [u32])
 
 /// Writes the words of arcs and their weights.
 fn write_arcs<W: Written>(arcs: &[Arc], weights: &[W], out: &mut [u32])
-    requires narrow { writing.width < 9 }
+    requires narrow { W.writing.width < 9 }
     requires room { length arcs.now ≡ length weights.now }
-    requires long { length out.old ≡ length arcs.now * (1 + writing.width) }
-    ensures { out.new ≡ flat_map (edge_words writing) (zip arcs.now weights.now) }
+    requires long { length out.old ≡ length arcs.now * (1 + W.writing.width) }
+    ensures { out.new ≡ flat_map (edge_words W.writing) (zip arcs.now weights.now) }
 {
     let c = W::width();
     let mut at = 0;
@@ -64,7 +64,7 @@ pub fn write<W: Written>(
 ) -> Result<usize, WriteFault>
     requires kept { Kept place.now }
     requires room { length weights.now ≡ 640 }
-    ensures outcome { Wrote {W = W} writing (words_of writing (stored place.now weights.now)) out.old out.new result }
+    ensures outcome { Wrote {W = W} W.writing (words_of W.writing (stored place.now weights.now)) out.old out.new result }
     ensures limited { Limited (stored place.now weights.now) }
 {
     let c = W::width();
