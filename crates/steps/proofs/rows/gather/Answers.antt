@@ -5,9 +5,9 @@ use Rattle.std.proofs.lemmas.Map.Pairs.{pairs-rest, pairs-rest-all}
 use Rattle.weight.proofs.Totals.{zero_plus, total_start, total_end}
 use Rattle.steps.proofs.rows.gather.Goals as goal
 
-started : (g : _) (c : goal.After-into-iter-arc-iterator g) → pairs-rest c.into-iter-arc-iterator.result ≡ zip c.args.arcs.now c.args.weights.now
+started : (g : _) (c : goal.After-into_iter-arc-iterator g) → pairs-rest c.into_iter-arc-iterator.result ≡ zip c.args.arcs.now c.args.weights.now
 started g c =
-    ap pairs-rest c.into-iter-arc-iterator.ensures.into-iter-gives
+    ap pairs-rest c.into_iter-arc-iterator.ensures.into-iter-gives
     ∙ ap₂ zip (ap iter_rest c.zip-arc-items.ensures.first ∙ c.iter.ensures.rest) c.zip-arc-items.ensures.second.0
 
 pub loop-arc-init : goal.loop-arc-init
