@@ -1,8 +1,8 @@
 -- The laws of the operations on pictures.
-use Rattle.std.proofs.Common.{◌≡◌, true, [], ◌∷◌, map, refl, ap, ◌∙◌, ap₂}
+use Rattle.std.proofs.Common.{◌≡◌, true, [], ◌∷◌, map, refl, ap, ap₂}
 use mathlib.Core.Path.{fun_ext}
 use Rattle.weight.specs.Kinds.{Kind, Laws}
-use Rattle.picture.specs.Operations.{turned, mirrored, four, replaced, turned_picture, mirrored_picture, pieced_picture}
+use Rattle.picture.specs.Operations.{turned, mirrored, four, turned_picture, mirrored_picture, pieced_picture}
 use Rattle.picture.specs.PictureLaws.{PictureLaws, ProductLaws}
 use Rattle.picture.specs.Pictures.{Picture}
 use Rattle.picture.specs.Quadrants.{Address}

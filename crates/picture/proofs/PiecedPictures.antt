@@ -1,5 +1,5 @@
 -- The picture of a piecing.
-use Rattle.std.proofs.Common.{◌≡◌, ℕ, ◌+◌, ◌<◌, ◌≤◌, Bool, true, false, cond, List, [], ◌∷◌, ◌++◌, map, length, get_or, replicate, sym, refl, ap, ◌∙◌, ap₂, one-add, arith}
+use Rattle.std.proofs.Common.{◌≡◌, ℕ, ◌+◌, ◌<◌, ◌≤◌, Bool, true, false, cond, List, [], ◌∷◌, ◌++◌, map, length, replicate, sym, refl, ap, ◌∙◌, ap₂, one-add, arith}
 use Rattle.std.specs.List.{range_with_len, flat_map, AllByRecursion as All}
 use Rattle.std.proofs.lemmas.List.{length-append, length-replicate, append_assoc, get_or_append_left, get_or-append-add, get_or-replicate}
 use Rattle.std.proofs.ByRecursion.{All-weaker, All-append, All-map}

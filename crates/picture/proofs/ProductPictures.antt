@@ -8,7 +8,7 @@ use Rattle.std.proofs.lemmas.Bool.{eqb-true, and_right}
 use Rattle.weight.specs.Kinds.{Kind, Laws}
 use Rattle.weight.specs.Sums.{total}
 use Rattle.weight.proofs.Totals.{total_joined, total_all, times_total, total_times}
-use Rattle.picture.specs.Bodies.{Body, Edge, Sound}
+use Rattle.picture.specs.Bodies.{Body, Sound}
 use Rattle.picture.specs.BodyOperations.{paired, product_body}
 use Rattle.picture.specs.OperationStatements.{Products}
 use Rattle.picture.specs.Quadrants.{Address, digit, same}

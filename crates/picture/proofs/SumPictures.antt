@@ -6,9 +6,7 @@ use Rattle.std.proofs.lemmas.Bool.{ne_eqb}
 use Rattle.weight.specs.Kinds.{Kind, Laws}
 use Rattle.picture.specs.Bodies.{Body, Sound}
 use Rattle.picture.specs.BodyOperations.{raised, sum_body}
-use Rattle.picture.specs.Operations.{sum_picture}
-use Rattle.picture.specs.OperationStatements.{Shows, Sums}
-use Rattle.picture.specs.Pictures.{picture}
+use Rattle.picture.specs.OperationStatements.{Sums}
 use Rattle.picture.specs.Steps.{at_state}
 use Rattle.picture.proofs.Embeddings.{Ends, Away, state_value, raised_none, all_raised, ends_raised, part_value}
 use Rattle.picture.proofs.States.{total_below}
