@@ -13,10 +13,10 @@ returns g c =
     let r = c.args.a.now in
     let m = c.args.motion in
     let full : length r.arcs ≡ 512 = search rules in
-    let body = moved_stored r c.requires.kept full (becoming m) _ c.redirect.ensures c.args.weights.now _ c.copy-from-slice.ensures.after in
+    let body = moved_stored r c.requires.kept full (becoming m) _ c.redirect.ensures c.args.weights.now _ c.copy_from_slice.ensures.after in
     record {
       body = body;
       kept = moved_kept r c.requires.kept full (becoming m) _ c.redirect.ensures;
       shows = λ w. ap (λ b. picture k b w) body
-          ∙ redirected_shows g.met.W.Weight.laws (replacement m) (becoming m) (motion_replaces m) (stored r c.args.weights.now) (stored_sound _ _ c.requires.kept c.requires.room-a) w;
+          ∙ redirected_shows g.met.W.Weight.laws (replacement m) (becoming m) (motion_replaces m) (stored r c.args.weights.now) (stored_sound _ _ c.requires.kept c.requires.room_a) w;
     }

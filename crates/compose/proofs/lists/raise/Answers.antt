@@ -12,11 +12,11 @@ use Rattle.compose.proofs.lists.raise.Goals as goal
 abbrev none : Arc
 none = arc_from 0 0 UpperLeft
 
-pub overflow-add-out : goal.overflow-add-out
-overflow-add-out c = omega (arith, (All-get_or (λ a. Within 256 (raised_arc c.args.by a)) c.args.arcs.now c.loop-i.i none c.loop-i-test.true c.requires.small).0)
+pub overflow_add-out : goal.overflow_add-out
+overflow_add-out c = omega (arith, (All-get_or (λ a. Within 256 (raised_arc c.args.by a)) c.args.arcs.now c.loop-i.i none c.loop-i-test.true c.requires.small).0)
 
-pub overflow-add-out-in-loop-i : goal.overflow-add-out-in-loop-i
-overflow-add-out-in-loop-i c = omega (arith, (All-get_or (λ a. Within 256 (raised_arc c.args.by a)) c.args.arcs.now c.loop-i.i none c.loop-i-test.true c.requires.small).1)
+pub overflow_add-out-in-loop-i : goal.overflow_add-out-in-loop-i
+overflow_add-out-in-loop-i c = omega (arith, (All-get_or (λ a. Within 256 (raised_arc c.args.by a)) c.args.arcs.now c.loop-i.i none c.loop-i-test.true c.requires.small).1)
 
 pub loop-i-preserved : goal.loop-i-preserved
 loop-i-preserved c = mapped_more (raised_arc c.args.by) c.args.arcs.now c.loop-i.out c.loop-i.i none c.loop-i-test.true (omega arith) c.loop-i.invariant

@@ -1,4 +1,4 @@
-use Rattle.std.proofs.Common.{◌≡◌, ◌+◌, length, sym, refl, ap, ◌∙◌, ap₂, arith, rules}
+use Rattle.std.proofs.Common.{◌≡◌, ◌+◌, length, sym, refl, ap, ◌∙◌, arith, rules}
 use Rattle.std.proofs.ByRecursion.{All-weaker}
 use Rattle.picture.specs.Bodies.{Within}
 use Rattle.picture.specs.BodyOperations.{sum_body}
@@ -16,7 +16,7 @@ pub raise-requires : goal.raise-requires
 raise-requires g c =
     let a = c.args.a.now in
     let b = c.args.b.now in
-    let fits = within_limits (a.states + b.states) (a.count + b.count) (sym c.over-limit.ensures ∙ c.in-default.is) in
+    let fits = within_limits (a.states + b.states) (a.count + b.count) (sym c.over_limit.ensures ∙ c.in_default.is) in
     record {
       long = search rules;
       small = All-weaker (Within b.states) _ (λ x h. (omega (arith, h.0, fits.0), omega (arith, h.1, fits.0))) _ c.requires.kept_b.ends;
@@ -28,9 +28,9 @@ returns-in-Some g c =
     let b = c.args.b.now in
     let fa : length a.arcs ≡ 512 = search rules in
     let fb : length b.arcs ≡ 512 = search rules in
-    let count = sum_count a b c.args.front.now c.args.back.now c.requires.kept-a c.requires.kept_b c.requires.room-a c.requires.room-b fa fb in
+    let count = sum_count a b c.args.front.now c.args.back.now c.requires.kept_a c.requires.kept_b c.requires.room_a c.requires.room_b fa fb in
     record {
-      body = record { because = ap (excess (a.states + b.states)) count ∙ sym c.over-limit.ensures ∙ c.in-Some.is; unchanged = refl };
+      body = record { because = ap (excess (a.states + b.states)) count ∙ sym c.over_limit.ensures ∙ c.in-Some.is; unchanged = refl };
       shows = tt;
     }
 
@@ -43,18 +43,18 @@ returns g c =
     let back = c.args.back.now in
     let fa : length a.arcs ≡ 512 = search rules in
     let fb : length b.arcs ≡ 512 = search rules in
-    let ok = sym c.over-limit.ensures ∙ c.in-default.is in
+    let ok = sym c.over_limit.ensures ∙ c.in_default.is in
     let fits = within_limits (a.states + b.states) (a.count + b.count) ok in
-    let sa = stored_sound a front c.requires.kept-a c.requires.room-a in
-    let sb = stored_sound b back c.requires.kept_b c.requires.room-b in
-    let count = sum_count a b front back c.requires.kept-a c.requires.kept_b c.requires.room-a c.requires.room-b fa fb in
+    let sa = stored_sound a front c.requires.kept_a c.requires.room_a in
+    let sb = stored_sound b back c.requires.kept_b c.requires.room_b in
+    let count = sum_count a b front back c.requires.kept_a c.requires.kept_b c.requires.room_a c.requires.room_b fa fb in
     let made = body_made _ (sum_body (stored a front) (stored b back)) _ _ c.args.out.now _ _ _
     (ap (excess (a.states + b.states)) count ∙ ok) (sum_sound _ _ sa sb) c.requires.room refl fits.0 fits.1
-    (arcs_after a b front back c.requires.kept-a c.requires.kept_b c.requires.room-a c.requires.room-b fa fb _ c.raise.ensures fits.1)
-    (both_long a b front back c.requires.kept-a c.requires.kept_b c.requires.room-a c.requires.room-b fa fb)
-    (sum_weights_long a b front back c.requires.kept-a c.requires.kept_b c.requires.room-a c.requires.room-b fa fb _ c.join-3.ensures)
+    (arcs_after a b front back c.requires.kept_a c.requires.kept_b c.requires.room_a c.requires.room_b fa fb _ c.raise.ensures fits.1)
+    (both_long a b front back c.requires.kept_a c.requires.kept_b c.requires.room_a c.requires.room_b fa fb)
+    (sum_weights_long a b front back c.requires.kept_a c.requires.kept_b c.requires.room_a c.requires.room_b fa fb _ c.join-3.ensures)
     c.join.ensures c.join-2.ensures
-    (sum_arcs a b front back c.requires.kept-a c.requires.kept_b c.requires.room-a c.requires.room-b fa fb _ c.join-3.ensures) in
+    (sum_arcs a b front back c.requires.kept_a c.requires.kept_b c.requires.room_a c.requires.room_b fa fb _ c.join-3.ensures) in
     record {
       body = made;
       shows = λ w. ap (λ s. picture k s w) made.body ∙ sum_shows g.met.W.Weight.laws (stored a front) (stored b back) sa sb w;
