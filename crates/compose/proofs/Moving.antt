@@ -1,7 +1,7 @@
 -- The record of a turned or mirrored body.
 use Rattle.std.proofs.Common.{◌≡◌, ◌+◌, ◌-◌, List, map, length, sym, ap, ◌∙◌, subst, arith}
 use borrow.Rule.Slice.PartMut.{put_mid}
-use Rattle.std.specs.List.{zip, between, AllByRecursion as All}
+use Rattle.std.specs.List.{zip, between, AllByRecursion}
 use Rattle.std.proofs.lemmas.List.Edits.{length-between}
 use Rattle.std.proofs.ByRecursion.{All-map}
 use Rattle.std.proofs.lemmas.List.{length-map}
@@ -36,7 +36,7 @@ module _ (r : Record) (kept : Kept r) (full : length r.arcs ≡ 512) (g : Quadra
   moved_kept = record {
     few_states = kept.few_states;
     few_arcs = kept.few_arcs;
-    ends = subst (All (Within r.states)) (sym front) (All-map (Within r.states) (redirected g) _ kept.ends);
+    ends = subst (AllByRecursion (Within r.states)) (sym front) (All-map (Within r.states) (redirected g) _ kept.ends);
   }
 
   pub moved_stored : {W : Type 0} (mem out : List W) → out ≡ mem → stored after out ≡ redirected_body g (stored r mem)

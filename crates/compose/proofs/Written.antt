@@ -1,7 +1,7 @@
 -- A body whose three parts were written.
 use Rattle.std.proofs.Common.{◌≡◌, ℕ, ◌+◌, ◌-◌, ◌≤◌, List, map, length, take, None, Option, sym, ap, ◌∙◌, subst, arith, rules}
 use borrow.Rule.Slice.PartMut.{put_mid}
-use Rattle.std.specs.List.{zip, between, AllByRecursion as All}
+use Rattle.std.specs.List.{zip, between, AllByRecursion}
 use Rattle.std.proofs.ByRecursion.{All-map}
 use Rattle.std.proofs.lemmas.List.{places}
 use Rattle.std.proofs.lemmas.Slice.Zip.{firsts-zip}
@@ -51,8 +51,8 @@ body_made {W} fault b r arcs out xs ys ws ok sound lo es hn hm front la lw ex ey
     few_states = hn;
     few_arcs = hm;
     ends =
-        subst (All (Within r.states)) (ap (map (λ (e : Edge W). e.0)) (sym ea) ∙ firsts-zip arcs ws (lw ∙ sym la) ∙ sym front)
-        (All-map (Within r.states) (λ (e : Edge W). e.0) b.arcs (subst (λ n. All (λ (e : Edge W). Within n e.0) b.arcs) (sym es) sound.ends));
+        subst (AllByRecursion (Within r.states)) (ap (map (λ (e : Edge W). e.0)) (sym ea) ∙ firsts-zip arcs ws (lw ∙ sym la) ∙ sym front)
+        (All-map (Within r.states) (λ (e : Edge W). e.0) b.arcs (subst (λ n. AllByRecursion (λ (e : Edge W). Within n e.0) b.arcs) (sym es) sound.ends));
   };
 }
 

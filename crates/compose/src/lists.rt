@@ -1,5 +1,5 @@
 ghost use Rattle.std.specs.Prelude.{◌≡◌, ◌+◌, ◌<◌, ◌++◌, map, length};
-ghost use Rattle.std.specs.List.{AllByRecursion as All};
+ghost use Rattle.std.specs.List.{AllByRecursion};
 ghost use Rattle.picture.specs.Bodies.{Within};
 ghost use Rattle.picture.specs.BodyOperations.{raised_arc};
 
@@ -19,7 +19,7 @@ pub fn join<T: Copy>(front: &[T], back: &[T], out: &mut [T])
 /// Arcs with both ends raised.
 pub fn raise(arcs: &[Arc], by: u8, out: &mut [Arc])
     requires long { length out.old ≡ length arcs.now }
-    requires small { All (λ a. Within 256 (raised_arc by a)) arcs.now }
+    requires small { AllByRecursion (λ a. Within 256 (raised_arc by a)) arcs.now }
     ensures { out.new ≡ map (raised_arc by) arcs.now }
 {
     for i in 0..arcs.len() {

@@ -1,5 +1,5 @@
 ghost use Rattle.std.specs.Prelude.{◌≡◌, ℕ, ◌<◌, ◌≤◌, map, length, slice_index, slice_index_or};
-ghost use Rattle.std.specs.List.{zip, range_with_len, AllByRecursion as All};
+ghost use Rattle.std.specs.List.{zip, range_with_len, AllByRecursion};
 ghost use Rattle.weight.specs.Sums.{total};
 ghost use Rattle.picture.specs.Bodies.{Within};
 ghost use Rattle.picture.specs.Steps.{gathered, spread, at_state};
@@ -24,7 +24,7 @@ pub fn step_row<W: Weight>(
     requires indexed { Indexed To arcs.now index.now }
     requires weighted { length weights.now ≡ length arcs.now }
     requires states { length row.now ≤ 64 }
-    requires ends { All (Within (length row.now)) arcs.now }
+    requires ends { AllByRecursion (Within (length row.now)) arcs.now }
     requires below { length next.old ≤ 64 }
     ensures { next.new ≡ map (gathered W.kind (zip arcs.now weights.now) (at_state W.kind row.now) quadrant) (range_with_len 0 (length next.old)) }
 {
@@ -45,7 +45,7 @@ pub fn step_column<W: Weight>(
     requires indexed { Indexed From arcs.now index.now }
     requires weighted { length weights.now ≡ length arcs.now }
     requires states { length column.now ≤ 64 }
-    requires ends { All (Within (length column.now)) arcs.now }
+    requires ends { AllByRecursion (Within (length column.now)) arcs.now }
     requires below { length next.old ≤ 64 }
     ensures { next.new ≡ map (spread W.kind (zip arcs.now weights.now) (at_state W.kind column.now) quadrant) (range_with_len 0 (length next.old)) }
 {

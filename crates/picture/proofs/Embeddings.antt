@@ -1,6 +1,6 @@
 -- A body as a part of another, its states raised by a number.
 use Rattle.std.proofs.Common.{◌≡◌, ℕ, ◌+◌, ◌<◌, ◌≤◌, false, cond, ◌&&◌, eqb, List, [], ◌∷◌, ◌++◌, map, refl, ap, ◌∙◌, ap₂, zero-add, arith}
-use Rattle.std.specs.List.{AllByRecursion as All}
+use Rattle.std.specs.List.{AllByRecursion}
 use Rattle.std.proofs.ByRecursion.{All-weaker, All-map}
 use Rattle.weight.specs.Kinds.{Kind, Laws}
 use Rattle.weight.specs.Sums.{total}
@@ -28,24 +28,24 @@ pub raised_none : {W : Type 0} (es : List (Edge W)) → map (raised 0) es ≡ es
 raised_none [] = refl
 raised_none (e ∷ es) = ap₂ ◌∷◌ (λ i. (arc_from (zero-add e.0.from i) (zero-add e.0.to i) e.0.quadrant, e.1)) (raised_none es)
 
-pub all_raised : {W : Type 0} (P : Edge W → Type 0) (s n : ℕ) (es : List (Edge W)) → All (Ends n) es → ((e : Edge W) → Ends n e → P (raised s e)) → All P (map (raised s) es)
+pub all_raised : {W : Type 0} (P : Edge W → Type 0) (s n : ℕ) (es : List (Edge W)) → AllByRecursion (Ends n) es → ((e : Edge W) → Ends n e → P (raised s e)) → AllByRecursion P (map (raised s) es)
 all_raised P s n es h f = All-map P (raised s) es (All-weaker (Ends n) _ f es h)
 
-pub ends_raised : {W : Type 0} (s n m : ℕ) (es : List (Edge W)) → s + n ≤ m → All (Ends n) es → All (Ends m) (map (raised s) es)
+pub ends_raised : {W : Type 0} (s n m : ℕ) (es : List (Edge W)) → s + n ≤ m → AllByRecursion (Ends n) es → AllByRecursion (Ends m) (map (raised s) es)
 ends_raised s n m es h ends = all_raised (Ends m) s n es ends (λ e x. (omega (arith, x.0), omega (arith, x.1)))
 
 module _ {W : Type 0} {k : Kind W} (laws : Laws k) where
-  pub total_none : {A : Type 0} (P : A → Type 0) (xs : List A) (f : A → W) → All P xs → ((x : A) → P x → f x ≡ k.zero) → total k xs f ≡ k.zero
+  pub total_none : {A : Type 0} (P : A → Type 0) (xs : List A) (f : A → W) → AllByRecursion P xs → ((x : A) → P x → f x ≡ k.zero) → total k xs f ≡ k.zero
   total_none P xs f h e = total_all laws P xs f (λ _. k.zero) h e ∙ total_zero laws xs
 
-  pub away_none : (s n : ℕ) (es : List (Edge W)) (v : ℕ → W) (d : Quadrant) (q : ℕ) → q < n → All (Away s n) es → spread k es v d (s + q) ≡ k.zero
+  pub away_none : (s n : ℕ) (es : List (Edge W)) (v : ℕ → W) (d : Quadrant) (q : ℕ) → q < n → AllByRecursion (Away s n) es → spread k es v d (s + q) ≡ k.zero
   away_none s n es v d q h away =
       total_none (Away s n) es _ away (λ e x. ap (λ t. cond (t && same d e.0.quadrant) (k.times e.1 (v e.0.to)) k.zero) (x q h))
 
   -- a part of a body, whose states begin at s, has its own values
   pub part_value : (a : Body W) → Sound a → (s : ℕ) (arcs xs ys : List (Edge W)) (last : List W)
       → arcs ≡ xs ++ (map (raised s) a.arcs ++ ys)
-      → All (Away s a.states) xs → All (Away s a.states) ys
+      → AllByRecursion (Away s a.states) xs → AllByRecursion (Away s a.states) ys
       → ((q : ℕ) → q < a.states → at_state k last (s + q) ≡ at_state k a.last q)
       → (w : Address) (q : ℕ) → q < a.states
       → state_value k arcs last w (s + q) ≡ state_value k a.arcs a.last w q

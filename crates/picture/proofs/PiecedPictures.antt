@@ -1,6 +1,6 @@
 -- The picture of a piecing.
 use Rattle.std.proofs.Common.{◌≡◌, ℕ, ◌+◌, ◌<◌, ◌≤◌, Bool, true, false, cond, List, [], ◌∷◌, ◌++◌, map, length, replicate, sym, refl, ap, ◌∙◌, ap₂, one-add, arith}
-use Rattle.std.specs.List.{range_with_len, flat_map, AllByRecursion as All}
+use Rattle.std.specs.List.{range_with_len, flat_map, AllByRecursion}
 use Rattle.std.proofs.lemmas.List.{length-append, length-replicate, append_assoc, get_or_append_left, get_or-append-add, get_or-replicate}
 use Rattle.std.proofs.ByRecursion.{All-weaker, All-append, All-map}
 use Rattle.std.proofs.lemmas.Bool.{ne_eqb}
@@ -22,17 +22,17 @@ use Rattle.picture.proofs.StateSums.{total_states_add}
 use Rattle.picture.proofs.Values.{value_back}
 
 abbrev Sounds : {W : Type 0} → List (Part W) → Type 0
-Sounds ps = All (λ p. Sound p.1) ps
+Sounds ps = AllByRecursion (λ p. Sound p.1) ps
 
 module _ {W : Type 0} (k : Kind W) (P : Edge W → Type 0) where
-  all_entries : (s : ℕ) (p : Part W) → ((q : ℕ) → q < p.1.states → P (arc_from 0 (s + q) p.0, at_state k p.1.first q)) → All P (entries k s p)
+  all_entries : (s : ℕ) (p : Part W) → ((q : ℕ) → q < p.1.states → P (arc_from 0 (s + q) p.0, at_state k p.1.first q)) → AllByRecursion P (entries k s p)
   all_entries s p h = All-map P _ (range_with_len 0 p.1.states) (All-weaker (λ q. q < p.1.states) _ h _ (all_below p.1.states))
 
   -- what holds of the arcs that enter the states from s on, and of the arcs that leave them
   all_pieced : (s m : ℕ) (ps : List (Part W)) → Sounds ps → s + states_of ps ≤ m
       → ((q : ℕ) (d : Quadrant) (x : W) → s ≤ q → q < m → P (arc_from 0 q d, x))
       → ((e : Edge W) → s ≤ e.0.from → e.0.from < m → e.0.to < m → P e)
-      → All P (pieced_arcs k s ps)
+      → AllByRecursion P (pieced_arcs k s ps)
   all_pieced s m [] sound h f g = tt
   all_pieced s m (p ∷ ps) sound h f g =
       All-append P (entries k s p) _
@@ -64,7 +64,7 @@ module _ {W : Type 0} {k : Kind W} (laws : Laws k) where
 
   -- what state 0 leads to, by the parts
   spread_parts : (arcs : List (Edge W)) (last : List W) (d : Quadrant) (w : Address) (ps : List (Part W)) → Sounds ps
-      → (s : ℕ) (xs : List (Edge W)) (ls : List W) → 0 < s → All (λ e. e.0.from < s) xs → length ls ≡ s
+      → (s : ℕ) (xs : List (Edge W)) (ls : List W) → 0 < s → AllByRecursion (λ e. e.0.from < s) xs → length ls ≡ s
       → arcs ≡ xs ++ pieced_arcs k s ps → last ≡ ls ++ flat_map (λ p. p.1.last) ps
       → spread k (pieced_arcs k s ps) (state_value k arcs last w) d 0 ≡ total k ps (λ p. cond (same d p.0) (picture k p.1 w) k.zero)
   spread_parts arcs last d w [] sound s xs ls pos hx hl ea el = refl

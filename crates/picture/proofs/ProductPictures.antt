@@ -2,7 +2,7 @@
 use Rattle.std.proofs.Common.{◌≡◌, ℕ, ◌+◌, ◌*◌, ◌<◌, Bool, true, false, cond, ◌&&◌, eqb, List, [], ◌∷◌, sym, refl, ap, ◌∙◌, ap₂, arith}
 use mathlib.Core.Path.{fun_ext}
 use lib.Arith.{digits_lt}
-use Rattle.std.specs.List.{range_with_len, flat_map, AllByRecursion as All}
+use Rattle.std.specs.List.{range_with_len, flat_map, AllByRecursion}
 use Rattle.std.proofs.ByRecursion.{All-append}
 use Rattle.std.proofs.lemmas.Bool.{eqb-true, and_right}
 use Rattle.weight.specs.Kinds.{Kind, Laws}
@@ -19,11 +19,11 @@ use Rattle.picture.proofs.States.{total_below}
 use Rattle.picture.proofs.StateSums.{eqb_pair, length_paired, get_or_paired, total_states_mul}
 use Rattle.picture.proofs.Values.{value_back}
 
-all_joined : {A B : Type 0} (P : B → Type 0) (Q : A → Type 0) (g : A → List B) (xs : List A) → All Q xs → ((x : A) → Q x → All P (g x)) → All P (flat_map g xs)
+all_joined : {A B : Type 0} (P : B → Type 0) (Q : A → Type 0) (g : A → List B) (xs : List A) → AllByRecursion Q xs → ((x : A) → Q x → AllByRecursion P (g x)) → AllByRecursion P (flat_map g xs)
 all_joined P Q g [] h f = tt
 all_joined P Q g (x ∷ xs) h f = All-append P (g x) (flat_map g xs) (f x h.0) (all_joined P Q g xs h.1 f)
 
-all_cond : {A : Type 0} (P : A → Type 0) (t : Bool) (x : A) → P x → All P (cond t (x ∷ []) [])
+all_cond : {A : Type 0} (P : A → Type 0) (t : Bool) (x : A) → P x → AllByRecursion P (cond t (x ∷ []) [])
 all_cond P true x h = (h, tt)
 all_cond P false x h = tt
 

@@ -1,17 +1,17 @@
 -- Sums over the states 0, …, n - 1.
 use Rattle.std.proofs.Common.{◌≡◌, ℕ, zero, suc, ◌+◌, ◌<◌, ◌≤◌, Bool, true, false, cond, eqb, [], ◌∷◌, ◌++◌, sym, refl, ap, ◌∙◌, ap₂, ⊎_elim, add-zero, suc-add, zero-add, arith}
-use Rattle.std.specs.List.{range_with_len, AllByRecursion as All}
+use Rattle.std.specs.List.{range_with_len, AllByRecursion}
 use Rattle.std.proofs.ByRecursion.{All-weaker}
 use Rattle.std.proofs.lemmas.Bool.{cases_eq, eq-eqb, ne_eqb}
 use Rattle.weight.specs.Kinds.{Kind, Laws}
 use Rattle.weight.specs.Sums.{total}
 use Rattle.weight.proofs.Totals.{zero_plus, total_append, total_all}
 
-all_counting : (a n : ℕ) → All (λ i. i < a + n) (range_with_len a n)
+all_counting : (a n : ℕ) → AllByRecursion (λ i. i < a + n) (range_with_len a n)
 all_counting a zero = tt
 all_counting a (suc n) = (omega arith, All-weaker (λ i. i < a + 1 + n) (λ i. i < a + suc n) (λ i h. omega arith) _ (all_counting (a + 1) n))
 
-pub all_below : (n : ℕ) → All (λ i. i < n) (range_with_len 0 n)
+pub all_below : (n : ℕ) → AllByRecursion (λ i. i < n) (range_with_len 0 n)
 all_below n = All-weaker (λ i. i < 0 + n) (λ i. i < n) (λ i h. omega arith) _ (all_counting 0 n)
 
 pub counting_append : (a m n : ℕ) → range_with_len a (m + n) ≡ range_with_len a m ++ range_with_len (a + m) n

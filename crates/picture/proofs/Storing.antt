@@ -1,6 +1,6 @@
 -- A body that is stored within the limits is sound.
 use Rattle.std.proofs.Common.{◌≡◌, ℕ, ◌+◌, List, [], ◌∷◌, ◌++◌, length, take, sym, refl, ap, ◌∙◌, subst, arith}
-use Rattle.std.specs.List.{zip, between, AllByRecursion as All}
+use Rattle.std.specs.List.{zip, between, AllByRecursion}
 use Rattle.std.proofs.lemmas.List.Edits.{length-between}
 use Rattle.std.proofs.lemmas.List.{take_at}
 use Rattle.picture.specs.Bodies.{Within, Sound}
@@ -8,7 +8,7 @@ use Rattle.picture.specs.Stored.{stored, Kept, Fits, Holds}
 use Rattle.picture.specs.declared.body.Arc.{Arc}
 use Rattle.picture.specs.declared.body.Record.{Record}
 
-pub all_zipped : {A B : Type 0} (P : A → Type 0) (xs : List A) (ys : List B) → All P xs → All (λ (e : A × B). P e.0) (zip xs ys)
+pub all_zipped : {A B : Type 0} (P : A → Type 0) (xs : List A) (ys : List B) → AllByRecursion P xs → AllByRecursion (λ (e : A × B). P e.0) (zip xs ys)
 all_zipped P [] ys h = tt
 all_zipped P (x ∷ xs) [] h = tt
 all_zipped P (x ∷ xs) (y ∷ ys) h = (h.0, all_zipped P xs ys h.1)
@@ -29,5 +29,5 @@ holds_made n arcs used rest e fits =
       states = refl;
       count = refl;
       same = same;
-      kept = record { few_states = fits.few_states; few_arcs = fits.few_arcs; ends = subst (All (Within n)) (sym same) fits.ends };
+      kept = record { few_states = fits.few_states; few_arcs = fits.few_arcs; ends = subst (AllByRecursion (Within n)) (sym same) fits.ends };
     }

@@ -1,6 +1,6 @@
 -- Bodies: weighted automata over quadrants.
 use Rattle.std.specs.Prelude.{◌≡◌, ℕ, ◌<◌, List, length}
-use Rattle.std.specs.List.{AllByRecursion as All}
+use Rattle.std.specs.List.{AllByRecursion}
 use Rattle.picture.specs.declared.body.Arc.{Arc}
 
 -- an arc with its weight
@@ -22,4 +22,4 @@ Within n a = (a.from < n) × (a.to < n)
 pub record Sound {W : Type 0} (b : Body W) : Type 0 where
   pub firsts : length b.first ≡ b.states
   pub lasts : length b.last ≡ b.states
-  pub ends : All (λ e. Within b.states e.0) b.arcs
+  pub ends : AllByRecursion (λ e. Within b.states e.0) b.arcs

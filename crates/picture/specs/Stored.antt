@@ -1,6 +1,6 @@
 -- A body in memory: a record, and 640 weights with first weights from 0, last weights from 64, arc weights from 128.
 use Rattle.std.specs.Prelude.{◌≡◌, ℕ, ◌+◌, ◌≤◌, List, length, take, drop}
-use Rattle.std.specs.List.{zip, between, AllByRecursion as All}
+use Rattle.std.specs.List.{zip, between, AllByRecursion}
 use Rattle.picture.specs.Bodies.{Body, Within}
 use Rattle.picture.specs.declared.body.Arc.{Arc}
 use Rattle.picture.specs.declared.body.Record.{Record}
@@ -18,13 +18,13 @@ stored r mem = record {
 pub record Kept (r : Record) : Type 0 where
   pub few_states : r.states ≤ 64
   pub few_arcs : r.count ≤ 512
-  pub ends : All (Within r.states) (between 0 r.count r.arcs)
+  pub ends : AllByRecursion (Within r.states) (between 0 r.count r.arcs)
 
 -- so many states and these arcs are within the limits
 pub record Fits (n : ℕ) (arcs : List Arc) : Type 0 where
   pub few_states : n ≤ 64
   pub few_arcs : length arcs ≤ 512
-  pub ends : All (Within n) arcs
+  pub ends : AllByRecursion (Within n) arcs
 
 -- a record of so many states and these arcs, within the limits
 pub record Holds (n : ℕ) (arcs : List Arc) (r : Record) : Type 0 where

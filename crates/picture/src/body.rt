@@ -1,5 +1,5 @@
 ghost use Rattle.std.specs.Prelude.{MatchBool, MatchOption};
-ghost use Rattle.std.specs.List.{AllByRecursion as All};
+ghost use Rattle.std.specs.List.{AllByRecursion};
 ghost use Rattle.picture.specs.Bodies.{Within};
 ghost use Rattle.picture.specs.Stored.{Fits, Holds};
 
@@ -66,7 +66,7 @@ impl Record {
 
 /// Whether both ends of each arc are states.
 fn within(states: u8, arcs: &[Arc]) -> bool
-    ensures { MatchBool result (All (Within states) arcs.now) (All (Within states) arcs.now → ⊥) }
+    ensures { MatchBool result (AllByRecursion (Within states) arcs.now) (AllByRecursion (Within states) arcs.now → ⊥) }
 {
     for arc in arcs {
         if arc.from >= states || arc.to >= states {

@@ -1,6 +1,6 @@
 -- Products of each of a list with each of another, by row and column.
 use Rattle.std.proofs.Common.{◌≡◌, ℕ, ◌+◌, ◌*◌, ◌/◌, ◌%◌, ◌<◌, ◌≤◌, true, List, [], ◌∷◌, length, get_or, sym, ap, ◌∙◌, inl, inr, mul-zero, arith}
-use Rattle.std.specs.List.{AllByRecursion as All}
+use Rattle.std.specs.List.{AllByRecursion}
 use Rattle.std.proofs.lemmas.Nat.{div_below, mod_below, div-add-mod', mul-add-lt}
 use Rattle.std.proofs.ByRecursion.{All-weaker}
 use Rattle.std.proofs.lemmas.List.{ext_get_or}
@@ -36,8 +36,8 @@ pub pair_is : {W : Type 0} (k : Kind W) (n : ℕ) (e f : Edge W) (y : W) → sam
 pair_is k n e f y t h = cond-true (same e.0.quadrant f.0.quadrant) _ _ t ∙ ap (λ x. (pair_ends n e.0 f.0, x) ∷ []) (sym h)
 
 -- the ends of pairs of arcs between few states fit a byte
-pub small_ends : {W : Type 0} (m n : ℕ) (xs ys : List (Edge W)) → All (Ends m) xs → All (Ends n) ys → m * n ≤ 64
-    → All (λ e. All (λ f. Within 256 (pair_ends n e.0 f.0)) ys) xs
+pub small_ends : {W : Type 0} (m n : ℕ) (xs ys : List (Edge W)) → AllByRecursion (Ends m) xs → AllByRecursion (Ends n) ys → m * n ≤ 64
+    → AllByRecursion (λ e. AllByRecursion (λ f. Within 256 (pair_ends n e.0 f.0)) ys) xs
 small_ends m n xs ys hx hy l =
     All-weaker (Ends m) _ (λ e x. All-weaker (Ends n) _ (λ f y.
     (omega (arith, mul-add-lt e.0.from n f.0.from m x.0 y.0), omega (arith, mul-add-lt e.0.to n f.0.to m x.1 y.1))) ys hy) xs hx

@@ -1,5 +1,5 @@
 ghost use Rattle.std.specs.Prelude.{◌≡◌, ◌+◌, ◌*◌, ◌≤◌, ◌++◌, length, take};
-ghost use Rattle.std.specs.List.{zip, flat_map, AllByRecursion as All};
+ghost use Rattle.std.specs.List.{zip, flat_map, AllByRecursion};
 ghost use Rattle.picture.specs.Bodies.{Within};
 ghost use Rattle.picture.specs.BodyOperations.{paired, arc_pair, arc_pairs};
 ghost use Rattle.product.specs.Ends.{pair_ends};
@@ -30,7 +30,7 @@ fn pair_arc<W: Weight>(
 ) -> usize
     requires long { length out.old ≡ length products.old }
     requires room { start + length (flat_map (arc_pair W.kind states (arc, weight)) (zip others.now factors.now)) ≤ length out.old }
-    requires small { All (λ e. Within 256 (pair_ends states arc e.0)) (zip others.now factors.now) }
+    requires small { AllByRecursion (λ e. Within 256 (pair_ends states arc e.0)) (zip others.now factors.now) }
     ensures number { result ≡ start + length (flat_map (arc_pair W.kind states (arc, weight)) (zip others.now factors.now)) }
     ensures arcs { zip (take result out.new) (take result products.new) ≡ zip (take start out.old) (take start products.old) ++ flat_map (arc_pair W.kind states (arc, weight)) (zip others.now factors.now) }
 {
@@ -61,7 +61,7 @@ pub(crate) fn pair_arcs<W: Weight>(
 )
     requires long { length out.old ≡ length products.old }
     requires room { length (arc_pairs W.kind states (zip arcs.now weights.now) (zip others.now factors.now)) ≡ length out.old }
-    requires small { All (λ e. All (λ f. Within 256 (pair_ends states e.0 f.0)) (zip others.now factors.now)) (zip arcs.now weights.now) }
+    requires small { AllByRecursion (λ e. AllByRecursion (λ f. Within 256 (pair_ends states e.0 f.0)) (zip others.now factors.now)) (zip arcs.now weights.now) }
     ensures { zip out.new products.new ≡ arc_pairs W.kind states (zip arcs.now weights.now) (zip others.now factors.now) }
 {
     let mut k = 0;

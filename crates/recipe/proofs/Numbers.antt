@@ -1,5 +1,5 @@
 -- The numbers of the places.
-use Rattle.std.proofs.Common.{◌≡◌, ℕ, ◌<◌, Some, refl, ap, arith}
+use Rattle.std.proofs.Common.{◌≡◌, ◌<◌, Some, refl, ap, arith}
 use Rattle.recipe.specs.Places.{number, place}
 use Rattle.recipe.specs.declared.place.Place.{Place}
 use Rattle.recipe.specs.declared.place.Place.TheVariants.{A, B, C, D, E, F, G, H}

@@ -1,5 +1,5 @@
 -- The machine reads the text of each tree, and so the tree of a text is one.
-use Rattle.std.proofs.Common.{◌≡◌, ℕ, ◌+◌, ◌-◌, List, [], ◌∷◌, ◌++◌, Some, None, Option, sym, refl, ap, ◌∙◌, arith}
+use Rattle.std.proofs.Common.{◌≡◌, ℕ, List, [], ◌∷◌, ◌++◌, Some, None, Option, sym, refl, ap, ◌∙◌, arith}
 use Rattle.recipe.specs.declared.place.Place.{Place}
 use Rattle.recipe.specs.declared.place.Place.TheVariants.{A, B, C, D, E, F, G, H}
 use Rattle.picture.specs.declared.quadrant.Quadrant.TheVariants.{UpperLeft, UpperRight, LowerLeft, LowerRight}

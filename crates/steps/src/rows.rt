@@ -1,5 +1,5 @@
 ghost use Rattle.std.specs.Prelude.{◌≡◌, ◌<◌, length};
-ghost use Rattle.std.specs.List.{zip, range_with_len, AllByRecursion as All};
+ghost use Rattle.std.specs.List.{zip, range_with_len, AllByRecursion};
 ghost use Rattle.picture.specs.Steps.{gathered, stepped, at_state};
 ghost use Rattle.weight.specs.Sums.{total};
 
@@ -9,7 +9,7 @@ use weight::Weight;
 /// One entry of a row times the digit's matrix: the sum, over the arcs that reach state `q` with the digit, of the
 /// row's weight at the arc's start times the arc's.
 fn gather<W: Weight>(arcs: &[Arc], weights: &[W], row: &[W], quadrant: Quadrant, q: usize) -> W
-    requires { All (λ e. e.0.from < length row.now) (zip arcs.now weights.now) }
+    requires { AllByRecursion (λ e. e.0.from < length row.now) (zip arcs.now weights.now) }
     ensures { result ≡ gathered W.kind (zip arcs.now weights.now) (at_state W.kind row.now) quadrant q }
 {
     let mut sum = W::zero();
@@ -29,7 +29,7 @@ pub fn advance<W: Weight>(
     quadrant: Quadrant,
     next: &mut [W],
 )
-    requires { All (λ e. e.0.from < length row.now) (zip arcs.now weights.now) }
+    requires { AllByRecursion (λ e. e.0.from < length row.now) (zip arcs.now weights.now) }
     ensures { next.new ≡ stepped W.kind (zip arcs.now weights.now) (length next.old) row.now quadrant }
 {
     for q in 0..next.len() {

@@ -1,7 +1,7 @@
 -- Each record of a table is within the limits, also once one is replaced.
 use Rattle.std.proofs.Common.{◌≡◌, ℕ, zero, suc, ◌-◌, ◌<◌, ◌≤◌, List, [], ◌∷◌, length, get_or, take, set, sym, subst, arith, get_or-take}
 use native.Mathlib.Nat.{sub-zero}
-use Rattle.std.specs.List.{between, AllByRecursion as All}
+use Rattle.std.specs.List.{between, AllByRecursion}
 use Rattle.std.proofs.lemmas.List.Edits.{length-between}
 use Rattle.std.proofs.ByRecursion.{All-get_or}
 use Rattle.picture.specs.Bodies.{Within}
@@ -15,7 +15,7 @@ use Rattle.table.specs.Tables.{record_of}
 use Rattle.table.specs.declared.table.Table.{Table}
 
 -- what holds of the first n by their index holds of all of them
-all_taken : {X : Type 0} (P : X → Type 0) (xs : List X) (n : ℕ) (d : X) → ((i : ℕ) → i < n → P (get_or xs i d)) → All P (take n xs)
+all_taken : {X : Type 0} (P : X → Type 0) (xs : List X) (n : ℕ) (d : X) → ((i : ℕ) → i < n → P (get_or xs i d)) → AllByRecursion P (take n xs)
 all_taken P xs zero d h = tt
 all_taken P [] (suc n) d h = tt
 all_taken P (x ∷ xs) (suc n) d h = (h zero (omega arith), all_taken P xs n d (λ i l. h (suc i) (omega arith)))

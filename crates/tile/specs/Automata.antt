@@ -1,6 +1,6 @@
 -- For the contracts of private functions: a body taken apart for steps.
 use Rattle.std.specs.Prelude.{◌≡◌, ◌≤◌, List, length}
-use Rattle.std.specs.List.{zip, AllByRecursion as All}
+use Rattle.std.specs.List.{zip, AllByRecursion}
 use Rattle.index.specs.Indexes.{Indexed}
 use Rattle.index.specs.declared.index.End.TheVariants.{From, To}
 use Rattle.picture.specs.Bodies.{Body, Edge, Within, Sound}
@@ -18,6 +18,6 @@ pub record Ready {W : Type 0} (a : Automaton W) : Type 0 where
   pub few : a.states ≤ 64
   pub sound : Sound (body a)
   pub weighted : length a.weights.now ≡ length a.arcs.now
-  pub ends : All (Within a.states) a.arcs.now
+  pub ends : AllByRecursion (Within a.states) a.arcs.now
   pub into : Indexed To a.arcs.now a.into
   pub out_of : Indexed From a.arcs.now a.out_of

@@ -1,6 +1,6 @@
 //! One cell, by taking the first row along its address.
 ghost use Rattle.std.specs.Prelude.{◌≡◌, ◌<◌, length};
-ghost use Rattle.std.specs.List.{zip, AllByRecursion as All};
+ghost use Rattle.std.specs.List.{zip, AllByRecursion};
 ghost use Rattle.picture.specs.Pictures.{picture};
 ghost use Rattle.picture.specs.Steps.{carried};
 ghost use Rattle.picture.specs.Stored.{stored, Kept};
@@ -18,7 +18,7 @@ fn travel<W: Weight>(
     row: &mut [W],
     next: &mut [W],
 )
-    requires ends { All (λ e. e.0.from < length row.old) (zip arcs.now weights.now) }
+    requires ends { AllByRecursion (λ e. e.0.from < length row.old) (zip arcs.now weights.now) }
     requires next { length next.old ≡ length row.old }
     ensures { row.new ≡ carried W.kind (zip arcs.now weights.now) (length row.old) address.now row.old }
 {

@@ -1,7 +1,7 @@
 -- What the laws of a kind give of finite sums.
 use Rattle.std.proofs.Common.{◌≡◌, ℕ, ◌+◌, ◌<◌, List, [], ◌∷◌, ◌++◌, map, length, get_or, drop, sym, refl, ap, ◌∙◌, ap₂}
 use Rattle.std.proofs.lemmas.List.{drop_more}
-use Rattle.std.specs.List.{flat_map, AllByRecursion as All}
+use Rattle.std.specs.List.{flat_map, AllByRecursion}
 use Rattle.weight.specs.Kinds.{Kind, Laws}
 use Rattle.weight.specs.Sums.{total, product, SumLaws}
 
@@ -43,7 +43,7 @@ module _ {W : Type 0} {k : Kind W} (laws : Laws k) where
   total_joined g (x ∷ xs) f = total_append (g x) (flat_map g xs) f ∙ ap (k.plus (total k (g x) f)) (total_joined g xs f)
 
   -- equal terms, under a fact of each element
-  pub total_all : {A : Type 0} (P : A → Type 0) (xs : List A) (f g : A → W) → All P xs → ((x : A) → P x → f x ≡ g x) → total k xs f ≡ total k xs g
+  pub total_all : {A : Type 0} (P : A → Type 0) (xs : List A) (f g : A → W) → AllByRecursion P xs → ((x : A) → P x → f x ≡ g x) → total k xs f ≡ total k xs g
   total_all P [] f g h e = refl
   total_all P (x ∷ xs) f g h e = ap₂ k.plus (e x h.0) (total_all P xs f g h.1 e)
 

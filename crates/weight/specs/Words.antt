@@ -1,6 +1,6 @@
 -- Weights as words of 32 bits.
 use Rattle.std.specs.Prelude.{◌≡◌, ℕ, ◌+◌, ◌/◌, ◌%◌, ◌^◌, ◌<◌, ◌≤◌, List, [], ◌∷◌, length, Option, MatchOption}
-use Rattle.std.specs.List.{AllByRecursion as All}
+use Rattle.std.specs.List.{AllByRecursion}
 
 -- how a kind is written: its code, how many words a value has, and the words of a value
 pub record Writing (W : Type 0) : Type 0 where
@@ -28,7 +28,7 @@ pub record WordLaws {W : Type 0} (s : Writing W) : Type 0 where
   pub width_to : s.width ≤ 9
   pub count : s.width < 9 → (v : W) → length (s.words v) ≡ s.width
   pub unique : s.width < 9 → (v w : W) → s.words v ≡ s.words w → v ≡ w
-  pub tagged : s.width < 9 → (v : W) → All WeightWord (s.words v)
+  pub tagged : s.width < 9 → (v : W) → AllByRecursion WeightWord (s.words v)
 
 -- these are the words of v, in a kind that is not too wide
 abbrev pub Spells : {W : Type 0} → Writing W → W → List ℕ → Type 0

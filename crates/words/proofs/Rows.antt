@@ -1,6 +1,6 @@
 -- One state or one arc more, as it is read.
 use Rattle.std.proofs.Common.{◌≡◌, ℕ, ◌+◌, ◌<◌, ◌≤◌, List, [], ◌∷◌, ◌++◌, length, take, drop, set, sym, refl, ap, ◌∙◌, subst, ap₂, arith}
-use Rattle.std.specs.List.{zip, between, flat_map, AllByRecursion as All}
+use Rattle.std.specs.List.{zip, between, flat_map, AllByRecursion}
 use Rattle.std.proofs.lemmas.List.Edits.{length-between}
 use Rattle.std.proofs.ByRecursion.{All-push}
 use Rattle.std.proofs.lemmas.List.{append_assoc, flat_map_more, length-drop, length-take-le, take_all, take_more_set, take-set-le, drop-set-lt, drop-set-add}
@@ -48,14 +48,14 @@ module _ {W : Type 0} (s : Writing W) where
       took_as (state_push (states_in q mem) v w ∙ ap (flat_map (state_words s)) (sym (states_in_more q mem v w h l))) (took_both (took_both p r) t)
 
   pub arcs_more : {a b d e : Reader} (n k : ℕ) (bs : List Arc) (ws : List W) (x : Arc) (w : W) → k < length bs → length bs ≡ length ws
-      → All (Within n) (take k bs) → Took (flat_map (edge_words s) (zip (take k bs) (take k ws))) a b → Within n x × Took (arc_word x ∷ []) b d → Took (s.words w) d e
-      → All (Within n) (take (k + 1) (set bs k x)) × Took (flat_map (edge_words s) (zip (take (k + 1) (set bs k x)) (take (k + 1) (set ws k w)))) a e
+      → AllByRecursion (Within n) (take k bs) → Took (flat_map (edge_words s) (zip (take k bs) (take k ws))) a b → Within n x × Took (arc_word x ∷ []) b d → Took (s.words w) d e
+      → AllByRecursion (Within n) (take (k + 1) (set bs k x)) × Took (flat_map (edge_words s) (zip (take (k + 1) (set bs k x)) (take (k + 1) (set ws k w)))) a e
   arcs_more n k bs ws x w h l ends p r t =
       let fa = take_more_set bs k x h in
       let fw = take_more_set ws k w (omega arith) in
       let both : zip (take (k + 1) (set bs k x)) (take (k + 1) (set ws k w)) ≡ zip (take k bs) (take k ws) ++ ((x, w) ∷ []) =
       ap₂ zip fa fw ∙ zipped_push (take k bs) (take k ws) x w (length-take-le k bs (omega arith) ∙ sym (length-take-le k ws (omega arith))) in (
-        subst (All (Within n)) (sym fa) (All-push (Within n) (take k bs) x ends r.0),
+        subst (AllByRecursion (Within n)) (sym fa) (All-push (Within n) (take k bs) x ends r.0),
         took_as (edge_push (zip (take k bs) (take k ws)) x w ∙ ap (flat_map (edge_words s)) (sym both)) (took_both (took_both p r.1) t),
       )
 
@@ -63,6 +63,6 @@ module _ {W : Type 0} (s : Writing W) where
   states_done q n mem e p = took_as (ap (λ x. flat_map (state_words s) (states_in x mem)) e) p
 
   pub arcs_done : {a b : Reader} (n k : ℕ) (bs : List Arc) (ws : List W) → length bs ≤ k → length ws ≤ k
-      → All (Within n) (take k bs) → Took (flat_map (edge_words s) (zip (take k bs) (take k ws))) a b → All (Within n) bs × Took (flat_map (edge_words s) (zip bs ws)) a b
+      → AllByRecursion (Within n) (take k bs) → Took (flat_map (edge_words s) (zip (take k bs) (take k ws))) a b → AllByRecursion (Within n) bs × Took (flat_map (edge_words s) (zip bs ws)) a b
   arcs_done n k bs ws lb lw ends p =
-      (subst (All (Within n)) (take_all k bs lb) ends, took_as (ap₂ (λ xs ys. flat_map (edge_words s) (zip xs ys)) (take_all k bs lb) (take_all k ws lw)) p)
+      (subst (AllByRecursion (Within n)) (take_all k bs lb) ends, took_as (ap₂ (λ xs ys. flat_map (edge_words s) (zip xs ys)) (take_all k bs lb) (take_all k ws lw)) p)

@@ -1,6 +1,6 @@
 -- Where reading stops: what a reader took comes before the first wrong piece.
 use Rattle.std.proofs.Common.{◌≡◌, ℕ, zero, suc, ◌+◌, ◌-◌, ◌<◌, List, [], ◌∷◌, ◌++◌, length, sym, refl, ap, ◌∙◌, subst, inl, inr, arith}
-use Rattle.std.specs.List.{flat_map, AllByRecursion as All}
+use Rattle.std.specs.List.{flat_map, AllByRecursion}
 use Rattle.std.proofs.lemmas.List.{append_assoc, length-append}
 use Rattle.weight.specs.Words.{Writing}
 use Rattle.picture.specs.Bodies.{Edge, Within}
@@ -57,7 +57,7 @@ module _ {W : Type 0} (s : Writing W) (n : ℕ) where
         inr (z.0, s.words z.1 ++ (more ++ rest), split, inr (z.1, more ++ rest, refl, after_states zs due (more ++ rest) rest (i + s.width + s.width) j f refl at h))
 
     -- after right arcs
-    after_arcs : (es : List (Edge W)) (due : List Piece) (given rest : List ℕ) (i j : ℕ) (f : PieceFault) → All (λ e. Within n e.0) es → given ≡ flat_map (edge_words s) es ++ rest → j ≡ i + length (flat_map (edge_words s) es)
+    after_arcs : (es : List (Edge W)) (due : List Piece) (given rest : List ℕ) (i j : ℕ) (f : PieceFault) → AllByRecursion (λ e. Within n e.0) es → given ≡ flat_map (edge_words s) es ++ rest → j ≡ i + length (flat_map (edge_words s) es)
         → FirstWrong s n due rest j f → FirstWrong s n (arc_pieces (length es) ++ due) given i f
     after_arcs [] due given rest i j f ends e k h = subst (λ xs. FirstWrong s n due xs i f) (sym e) (subst (λ x. FirstWrong s n due rest x f) (omega arith) h)
     after_arcs (x ∷ es) due given rest i j f ends e k h =
@@ -77,7 +77,7 @@ module _ {W : Type 0} (s : Writing W) (n : ℕ) where
     stop_after_states {a} {b} zs q due all f l e p h =
         subst (λ ds. FirstWrong s n ds a.rest.now a.position f) (ap (λ k. state_pieces k ++ due) l ∙ sym e) (after_states zs due _ _ _ _ f p.splits p.on h)
 
-    stop_after_arcs : {a b : Reader} (es : List (Edge W)) (q : ℕ) (due all : List Piece) (f : PieceFault) → All (λ e. Within n e.0) es → length es ≡ q → all ≡ arc_pieces q ++ due → Took (flat_map (edge_words s) es) a b
+    stop_after_arcs : {a b : Reader} (es : List (Edge W)) (q : ℕ) (due all : List Piece) (f : PieceFault) → AllByRecursion (λ e. Within n e.0) es → length es ≡ q → all ≡ arc_pieces q ++ due → Took (flat_map (edge_words s) es) a b
         → FirstWrong s n due b.rest.now b.position f → FirstWrong s n all a.rest.now a.position f
     stop_after_arcs {a} {b} es q due all f ends l e p h =
         subst (λ ds. FirstWrong s n ds a.rest.now a.position f) (ap (λ k. arc_pieces k ++ due) l ∙ sym e) (after_arcs es due _ _ _ _ f ends p.splits p.on h)
@@ -95,7 +95,7 @@ module _ {W : Type 0} (s : Writing W) (n : ℕ) where
           stop_after_states zs q (a_weight ∷ a_weight ∷ due) _ _ long (states_due q n below) took (stop_after_weight v (a_weight ∷ due) _ p (stop_weight due _ _ f h))
 
     -- after q right arcs, the word or the weight of the next is wrong
-    module _ {a b : Reader} (es : List (Edge W)) (q m : ℕ) (below : q < m) (long : length es ≡ q) (ends : All (λ e. Within n e.0) es) (took : Took (flat_map (edge_words s) es) a b) where
+    module _ {a b : Reader} (es : List (Edge W)) (q m : ℕ) (below : q < m) (long : length es ≡ q) (ends : AllByRecursion (λ e. Within n e.0) es) (took : Took (flat_map (edge_words s) es) a b) where
       pub arcs_stop_arc : (f : ArcFault) → (f.word.index ≡ b.position) × NoArc n b.rest.now → FirstWrong s n (arc_pieces m) a.rest.now a.position (WrongArc f)
       arcs_stop_arc f h =
           let due = a_weight ∷ arc_pieces (m - suc q) in

@@ -1,7 +1,7 @@
 -- A record and its weights once states and arcs are stored.
 use Rattle.std.proofs.Common.{◌≡◌, ℕ, ◌+◌, ◌-◌, ◌≤◌, List, ◌++◌, length, sym, refl, ◌∙◌, subst, ap₂, arith, rules}
 use borrow.Rule.Slice.PartMut.{put_mid}
-use Rattle.std.specs.List.{zip, between, flat_map, AllByRecursion as All}
+use Rattle.std.specs.List.{zip, between, flat_map, AllByRecursion}
 use Rattle.std.proofs.lemmas.List.Edits.{length-between}
 use Rattle.std.proofs.lemmas.Slice.Zip.{length-zip}
 use Rattle.std.proofs.lemmas.Slice.{overwrites, between-put_mid, between_is}
@@ -36,7 +36,7 @@ module _ {W : Type 0} (s : Writing W) (counts : Counts) (few_states : counts.sta
   placed none bs = record { states = counts.states; count = counts.arcs; arcs = put_mid 0 (counts.arcs - 0) none bs }
 
   pub body_done : {a b d : Reader} (none bs : List Arc) (ws : List W) → length none ≡ 512 → length bs ≡ counts.arcs → length ws ≡ counts.arcs
-      → Took (flat_map (state_words s) (states_in counts.states one)) a b → All (Within counts.states) bs × Took (flat_map (edge_words s) (zip bs ws)) b d
+      → Took (flat_map (state_words s) (states_in counts.states one)) a b → AllByRecursion (Within counts.states) bs × Took (flat_map (edge_words s) (zip bs ws)) b d
       → ReadBody s counts (put_mid 128 (128 + counts.arcs - 128) one ws) a d (placed none bs)
   body_done none bs ws ln lb lw p q =
       let n = counts.states in
@@ -49,6 +49,6 @@ module _ {W : Type 0} (s : Writing W) (counts : Counts) (few_states : counts.sta
       record {
         states = refl;
         arcs = refl;
-        kept = record { few_states = few_states; few_arcs = few_arcs; ends = subst (All (Within n)) (sym arcs) q.0 };
+        kept = record { few_states = few_states; few_arcs = few_arcs; ends = subst (AllByRecursion (Within n)) (sym arcs) q.0 };
         took = took_as (ap₂ (λ zs es. flat_map (state_words s) zs ++ flat_map (edge_words s) es) (ap₂ zip (sym first) (sym last)) (ap₂ zip (sym arcs) (sym weights))) (took_both p q.1);
       }

@@ -1,6 +1,6 @@
 -- Words have one reading.
 use Rattle.std.proofs.Common.{◌≡◌, ℕ, ◌+◌, ◌<◌, ◌≤◌, List, [], ◌∷◌, ◌++◌, map, length, take, drop, sym, refl, ap, ◌∙◌, subst, ap₂, inl, inr, arith}
-use Rattle.std.specs.List.{zip, flat_map, AllByRecursion as All}
+use Rattle.std.specs.List.{zip, flat_map, AllByRecursion}
 use Rattle.std.proofs.lemmas.List.{append_assoc, take_at, drop_at}
 use Rattle.std.proofs.lemmas.Slice.Zip.{firsts-zip, seconds-zip}
 use Rattle.weight.specs.Words.{Writing, WordLaws}
@@ -51,7 +51,7 @@ module _ {W : Type 0} (s : Writing W) (laws : WordLaws s) (narrow : s.width < 9)
       let others = states_one zs us xs ys (omega arith) last.1 in
       (ap₂ ◌∷◌ (λ i. (first.0 i, last.0 i)) others.0, others.1)
 
-  arcs_one : (n : ℕ) → n ≤ 64 → (es fs : List (Edge W)) → All (λ e. Within n e.0) es → All (λ e. Within n e.0) fs → length es ≡ length fs → flat_map (edge_words s) es ≡ flat_map (edge_words s) fs → es ≡ fs
+  arcs_one : (n : ℕ) → n ≤ 64 → (es fs : List (Edge W)) → AllByRecursion (λ e. Within n e.0) es → AllByRecursion (λ e. Within n e.0) fs → length es ≡ length fs → flat_map (edge_words s) es ≡ flat_map (edge_words s) fs → es ≡ fs
   arcs_one n few [] [] h k l e = refl
   arcs_one n few [] (y ∷ fs) h k l e = absurd (omega arith)
   arcs_one n few (x ∷ es) [] h k l e = absurd (omega arith)
@@ -79,7 +79,7 @@ module _ {W : Type 0} (s : Writing W) (laws : WordLaws s) (narrow : s.width < 9)
         let one = past_weight z.0 (a_weight ∷ ds) (s.words z.1 ++ more) i f (subst (λ xs. FirstWrong s n (a_weight ∷ a_weight ∷ ds) xs i f) split h) in
         past_states zs due rest (i + s.width + s.width) f (past_weight z.1 ds more (i + s.width) f one)
 
-    past_arcs : (es : List (Edge W)) (i : ℕ) (f : PieceFault) → All (λ e. Within n e.0) es → FirstWrong s n (arc_pieces (length es)) (flat_map (edge_words s) es) i f → ⊥
+    past_arcs : (es : List (Edge W)) (i : ℕ) (f : PieceFault) → AllByRecursion (λ e. Within n e.0) es → FirstWrong s n (arc_pieces (length es)) (flat_map (edge_words s) es) i f → ⊥
     past_arcs [] i f ends h = h
     past_arcs (x ∷ es) i f ends h =
         let more = flat_map (edge_words s) es in
@@ -177,7 +177,7 @@ module _ {W : Type 0} (s : Writing W) (laws : WordLaws s) (narrow : s.width < 9)
       let w = k.limited.sound in
       let first : a.first ≡ b.first = sym (firsts-zip a.first a.last (u.lasts ∙ sym u.firsts)) ∙ ap (map (λ (p : W × W). p.0)) states.0 ∙ firsts-zip b.first b.last (w.lasts ∙ sym w.firsts) in
       let last : a.last ≡ b.last = sym (seconds-zip a.first a.last (u.lasts ∙ sym u.firsts)) ∙ ap (map (λ (p : W × W). p.1)) states.0 ∙ seconds-zip b.first b.last (w.lasts ∙ sym w.firsts) in
-      let arcs = arcs_one b.states k.limited.few_states a.arcs b.arcs (subst (λ n. All (λ (e : Edge W). Within n e.0) a.arcs) same.0 u.ends) w.ends same.1 states.1 in
+      let arcs = arcs_one b.states k.limited.few_states a.arcs b.arcs (subst (λ n. AllByRecursion (λ (e : Edge W). Within n e.0) a.arcs) same.0 u.ends) w.ends same.1 states.1 in
       λ i. record { states = same.0 i; first = first i; last = last i; arcs = arcs i }
 
 pub no_body : {W : Type 0} (s : Writing W) → WordLaws s → NoBody s

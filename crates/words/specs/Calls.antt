@@ -1,6 +1,5 @@
 -- What the public calls do.
 use Rattle.std.specs.Prelude.{◌≡◌, ℕ, ◌<◌, List, ◌++◌, length, drop, Ok, Err, Result, MatchResult}
-use mathlib.Core.Unit.{⊤}
 use Rattle.weight.specs.Words.{Writing}
 use Rattle.picture.specs.Bodies.{Body}
 use Rattle.picture.specs.Stored.{stored, Kept}
@@ -52,4 +51,4 @@ Held s given after = (place : Record) × Kept place × SpellsBody s (stored plac
 abbrev pub HeldUnlessUnread : {W : Type 0} → Writing W → (given : List ℕ) (after : List W) → Result ℕ TripFault → Type 0
 HeldUnlessUnread s given after (Ok _) = Held s given after
 HeldUnlessUnread s given after (Err (Write _)) = Held s given after
-HeldUnlessUnread s given after (Err (Read _)) = ⊤
+HeldUnlessUnread s given after (Err (Read _)) = Unit {0}

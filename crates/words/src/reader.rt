@@ -1,5 +1,5 @@
 ghost use Rattle.std.specs.Prelude.{◌≡◌, ◌<◌, ◌≤◌, [], ◌∷◌, ◌++◌, length, MatchResult};
-ghost use Rattle.std.specs.List.{zip, flat_map, AllByRecursion as All};
+ghost use Rattle.std.specs.List.{zip, flat_map, AllByRecursion};
 ghost use Rattle.picture.specs.Bodies.{Within};
 ghost use Rattle.words.specs.Format.{arc_word, state_words, edge_words};
 ghost use Rattle.words.specs.Inner.{Took, Fits, states_in, ReadBody};
@@ -100,7 +100,7 @@ impl Reader<'_> {
         requires narrow { W.writing.width < 9 }
         requires room { length arcs.old ≡ length weights.old }
         requires fits { Fits self.old }
-        ensures { MatchResult result (λ _. All (Within n) arcs.new × Took (flat_map (edge_words W.writing) (zip arcs.new weights.new)) self.old self.new) (FirstWrong {W = W} W.writing n (arc_pieces (length weights.old)) self.old.rest.now self.old.position) }
+        ensures { MatchResult result (λ _. AllByRecursion (Within n) arcs.new × Took (flat_map (edge_words W.writing) (zip arcs.new weights.new)) self.old self.new) (FirstWrong {W = W} W.writing n (arc_pieces (length weights.old)) self.old.rest.now self.old.position) }
     {
         for k in 0..arcs.len() {
             arcs[k] = self.arc(n)?;

@@ -1,5 +1,5 @@
 use Rattle.std.proofs.Common.{subst, arith}
-use Rattle.std.specs.List.{AllByRecursion as All}
+use Rattle.std.specs.List.{AllByRecursion}
 use Rattle.std.proofs.ByRecursion.{All-get_or, All-more}
 use Rattle.std.proofs.lemmas.List.{take_all}
 use Rattle.picture.specs.Bodies.{Within}
@@ -26,4 +26,4 @@ loop-arc-preserved c =
     (c.if-arc-states.false, c.if-arc-states-2.false)
 
 pub returns : goal.returns
-returns c = subst (All (Within c.args.states)) (take_all _ _ c.loop-arc-test.false) c.loop-arc.invariant
+returns c = subst (AllByRecursion (Within c.args.states)) (take_all _ _ c.loop-arc-test.false) c.loop-arc.invariant

@@ -9,8 +9,8 @@ use Rattle.piece.specs.Parts.{part_arcs}
 use Rattle.piece.proofs.FourParts.{four_arcs}
 use Rattle.piece.proofs.entries.enter_four.Goals as goal
 
-pub offset-bounds-products-x : goal.offset-bounds-products-x
-offset-bounds-products-x g c =
+pub offset_bounds-products-x : goal.offset_bounds-products-x
+offset_bounds-products-x g c =
     let ra = c.args.a.now in
     let rb = c.args.b.now in
     scaled_fits≤ (ra.states + ra.count + (rb.states + rb.count)) (length c.args.products.now) _ (omega (arith, c.requires.wide)) (search rules)
@@ -28,16 +28,16 @@ returns g c =
     let d = stored rd c.args.wd.now in
     let x = ra.states + ra.count + (rb.states + rb.count) in
     let y = rc.states + rc.count + (rd.states + rd.count) in
-    let one : length c.enter-two.new.arcs ≡ x = search rules in
-    let wide : length c.enter-two.new.products ≡ x = search rules in
-    let two : length c.enter-two-2.new.arcs ≡ y = c.enter-two-2.auto.arcs ∙ second_long x y c.args.arcs.now c.enter-two.new.arcs c.requires.long one in
-    let wide-two : length c.enter-two-2.new.products ≡ y = c.enter-two-2.auto.products ∙ second_long x y c.args.products.now c.enter-two.new.products c.requires.wide wide in
-    let front : zip c.enter-two.new.arcs c.enter-two.new.products ≡ part_arcs k 1 UpperLeft a ++ part_arcs k (1 + ra.states) UpperRight b = c.enter-two.ensures in
-    let back : zip c.enter-two-2.new.arcs c.enter-two-2.new.products
-    ≡ part_arcs k (1 + ra.states + rb.states) LowerLeft r ++ part_arcs k (1 + ra.states + rb.states + rc.states) LowerRight d = c.enter-two-2.ensures in
+    let one : length c.enter_two.new.arcs ≡ x = search rules in
+    let wide : length c.enter_two.new.products ≡ x = search rules in
+    let two : length c.enter_two-2.new.arcs ≡ y = c.enter_two-2.auto.arcs ∙ second_long x y c.args.arcs.now c.enter_two.new.arcs c.requires.long one in
+    let wide-two : length c.enter_two-2.new.products ≡ y = c.enter_two-2.auto.products ∙ second_long x y c.args.products.now c.enter_two.new.products c.requires.wide wide in
+    let front : zip c.enter_two.new.arcs c.enter_two.new.products ≡ part_arcs k 1 UpperLeft a ++ part_arcs k (1 + ra.states) UpperRight b = c.enter_two.ensures in
+    let back : zip c.enter_two-2.new.arcs c.enter_two-2.new.products
+    ≡ part_arcs k (1 + ra.states + rb.states) LowerLeft r ++ part_arcs k (1 + ra.states + rb.states + rc.states) LowerRight d = c.enter_two-2.ensures in
     ap₂ zip
-    (parts_are x y c.args.arcs.now c.enter-two.new.arcs c.enter-two-2.new.arcs c.requires.long one two)
-    (parts_are x y c.args.products.now c.enter-two.new.products c.enter-two-2.new.products c.requires.wide wide wide-two)
-    ∙ zipped_append c.enter-two.new.arcs c.enter-two-2.new.arcs c.enter-two.new.products c.enter-two-2.new.products (one ∙ sym wide)
+    (parts_are x y c.args.arcs.now c.enter_two.new.arcs c.enter_two-2.new.arcs c.requires.long one two)
+    (parts_are x y c.args.products.now c.enter_two.new.products c.enter_two-2.new.products c.requires.wide wide wide-two)
+    ∙ zipped_append c.enter_two.new.arcs c.enter_two-2.new.arcs c.enter_two.new.products c.enter_two-2.new.products (one ∙ sym wide)
     ∙ ap₂ ◌++◌ front back
     ∙ four_arcs k a b r d

@@ -24,10 +24,10 @@ returns-in-Some g c =
     let fc : length r.arcs ≡ 512 = search rules in
     let fd : length d.arcs ≡ 512 = search rules in
     let count = four_count k a c.args.wa.now b c.args.wb.now r c.args.wc.now d c.args.wd.now
-    c.requires.kept-a c.requires.kept_b c.requires.kept-c c.requires.kept-d c.requires.room-a c.requires.room-b c.requires.room-c c.requires.room-d fa fb fc fd in
+    c.requires.kept_a c.requires.kept_b c.requires.kept_c c.requires.kept_d c.requires.room_a c.requires.room_b c.requires.room_c c.requires.room_d fa fb fc fd in
     let states : 1 + (a.states + (b.states + (r.states + (d.states + 0)))) ≡ 1 + (a.states + b.states + (r.states + d.states)) = omega arith in
     record {
-      body = record { because = ap₂ excess states count ∙ sym c.over-limit.ensures ∙ c.in-Some.is; unchanged = refl };
+      body = record { because = ap₂ excess states count ∙ sym c.over_limit.ensures ∙ c.in-Some.is; unchanged = refl };
       shows = tt;
     }
 
@@ -46,19 +46,19 @@ returns g c =
     let m = a.states + a.count + (b.states + b.count) + (r.states + r.count + (d.states + d.count)) in
     let f = four_stored a c.args.wa.now b c.args.wb.now r c.args.wc.now d c.args.wd.now in
     let sound = four_sound k a c.args.wa.now b c.args.wb.now r c.args.wc.now d c.args.wd.now
-    c.requires.kept-a c.requires.kept_b c.requires.kept-c c.requires.kept-d c.requires.room-a c.requires.room-b c.requires.room-c c.requires.room-d in
+    c.requires.kept_a c.requires.kept_b c.requires.kept_c c.requires.kept_d c.requires.room_a c.requires.room_b c.requires.room_c c.requires.room_d in
     let count = four_count k a c.args.wa.now b c.args.wb.now r c.args.wc.now d c.args.wd.now
-    c.requires.kept-a c.requires.kept_b c.requires.kept-c c.requires.kept-d c.requires.room-a c.requires.room-b c.requires.room-c c.requires.room-d fa fb fc fd in
+    c.requires.kept_a c.requires.kept_b c.requires.kept_c c.requires.kept_d c.requires.room_a c.requires.room_b c.requires.room_c c.requires.room_d fa fb fc fd in
     let states : 1 + (a.states + (b.states + (r.states + (d.states + 0)))) ≡ n = omega arith in
-    let ok = sym c.over-limit.ensures ∙ c.in-default.is in
+    let ok = sym c.over_limit.ensures ∙ c.in_default.is in
     let fits = within_limits n m ok in
-    let long : length c.enter-four.new.arcs ≡ m = search rules in
+    let long : length c.enter_four.new.arcs ≡ m = search rules in
     let made = body_made _ (pieced_body k f) _ _ c.args.out.now _ _ _
     (ap₂ excess states count ∙ ok) (pieced_sound k f sound) c.requires.room (sym states) fits.0 fits.1
-    (between-put_mid 0 _ a.arcs c.enter-four.new.arcs m (omega arith) (omega arith)) long (search rules)
-    (c.write-firsts.ensures ∙ ap (λ i. k.one ∷ replicate i k.zero) (omega (arith, length-take-le (n - 0) c.args.out.now (omega arith))))
-    (c.write-lasts.ensures ∙ four_lasts k (f UpperLeft) (f UpperRight) (f LowerLeft) (f LowerRight))
-    c.enter-four.ensures in
+    (between-put_mid 0 _ a.arcs c.enter_four.new.arcs m (omega arith) (omega arith)) long (search rules)
+    (c.write_firsts.ensures ∙ ap (λ i. k.one ∷ replicate i k.zero) (omega (arith, length-take-le (n - 0) c.args.out.now (omega arith))))
+    (c.write_lasts.ensures ∙ four_lasts k (f UpperLeft) (f UpperRight) (f LowerLeft) (f LowerRight))
+    c.enter_four.ensures in
     record {
       body = made;
       shows = λ w. ap (λ s. picture k s w) made.body ∙ pieced_shows g.met.W.Weight.laws f sound w ∙ four_pictures k (f UpperLeft) (f UpperRight) (f LowerLeft) (f LowerRight) w;

@@ -1,5 +1,5 @@
 use Rattle.std.proofs.Common.{ℕ, ◌<◌, List, ◌∷◌, true, eqb, subst, length, get_or, ◌≡◌, sym, cond, ap, ◌∙◌, ap₂, rules}
-use Rattle.std.specs.List.{zip, AllByRecursion as All}
+use Rattle.std.specs.List.{zip, AllByRecursion}
 use Rattle.std.specs.Slice.Iter.{iter_rest}
 use Rattle.steps.proofs.Pairs.{pairs_rest, no_pairs, one_pair}
 use Rattle.weight.proofs.Totals.{zero_plus, total_start, total_more, total_end}
@@ -41,7 +41,7 @@ loop-arc-preserved-then-is g c =
     let arc = c.in-Some.arc.now in
     let weight = c.in-Some.weight.now in
     let next = one_pair c.loop-arc.arc-iterator c.next.new.self arc weight c.in-Some.ensures.steps in
-    let left : All (λ e. e.0.from < length c.args.row.now) ((arc, weight) ∷ pairs_rest c.next.new.self) = subst (All (λ e. e.0.from < length c.args.row.now)) next c.loop-arc.invariant.2 in
+    let left : AllByRecursion (λ e. e.0.from < length c.args.row.now) ((arc, weight) ∷ pairs_rest c.next.new.self) = subst (AllByRecursion (λ e. e.0.from < length c.args.row.now)) next c.loop-arc.invariant.2 in
     let here = term k c.args.row.now c.args.quadrant c.args.q arc _ weight _ c.if-arc-q.true c.if-is.ensures left.0 c.index-row-arc.is c.times.ensures in
     ((tt, tt), tt, left.1, total_more g.met.W.Weight.laws _ _ _ _ _ _ _ next (c.plus-sum.ensures ∙ ap (k.plus c.loop-arc.sum) (sym here)) c.loop-arc.invariant.3)
 

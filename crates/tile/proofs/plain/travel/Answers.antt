@@ -1,12 +1,12 @@
 use Rattle.std.proofs.Common.{◌≡◌, ◌<◌, length, get_or, sym, ap, ◌∙◌, subst, arith}
-use Rattle.std.specs.List.{zip, AllByRecursion as All}
+use Rattle.std.specs.List.{zip, AllByRecursion}
 use Rattle.picture.specs.Steps.{stepped}
 use Rattle.picture.specs.declared.quadrant.Quadrant.TheVariants.{UpperLeft}
 use Rattle.tile.proofs.Alongs.{along_more, along_all}
 use Rattle.tile.proofs.plain.travel.Goals as goal
 
 pub advance-requires : goal.advance-requires
-advance-requires g c = subst (λ n. All (λ e. e.0.from < n) (zip c.args.arcs.now c.args.weights.now)) (sym c.loop-quadrant.auto.row) c.requires.ends
+advance-requires g c = subst (λ n. AllByRecursion (λ e. e.0.from < n) (zip c.args.arcs.now c.args.weights.now)) (sym c.loop-quadrant.auto.row) c.requires.ends
 
 pub loop-quadrant-preserved : goal.loop-quadrant-preserved
 loop-quadrant-preserved g c =

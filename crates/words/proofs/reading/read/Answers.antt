@@ -5,13 +5,13 @@ use Rattle.words.specs.Format.{SpellsBody}
 use Rattle.words.proofs.Unique.{no_body, one_body, one_fault}
 use Rattle.words.proofs.reading.read.Goals as goal
 
-pub returns-in-err-place : goal.returns-in-err-place
-returns-in-err-place g c =
+pub returns-in_err-place : goal.returns-in_err-place
+returns-in_err-place g c =
     let s = g.W.Written.writing in
     let laws = g.met.W.Written.words in
     let given = c.args.given.now in
-    let p = err_from_is_err_and c.from-residual.result c.from-residual.ensures.1 in
-    let refused = c.in-err-place.ensures in
+    let p = err_from_is_err_and c.from_residual.result c.from_residual.ensures.1 in
+    let refused = c.in_err-place.ensures in
     record {
       outcome = rw (p.1, p.2) (refused, refl);
       accepts = λ b h. absurd (no_body s laws given _ refused b h);
@@ -23,11 +23,11 @@ returns g c =
     let s = g.W.Written.writing in
     let laws = g.met.W.Written.words in
     let given = c.args.given.now in
-    let place = c.in-ok-place.place in
-    let ok = c.in-ok-place.ensures in
-    let held : SpellsBody s (stored place c.copy-from-slice.new.self) given = subst (λ mem. SpellsBody s (stored place mem) given) (sym c.copy-from-slice.ensures.after) ok.1 in
+    let place = c.in_ok-place.place in
+    let ok = c.in_ok-place.ensures in
+    let held : SpellsBody s (stored place c.copy_from_slice.new.self) given = subst (λ mem. SpellsBody s (stored place mem) given) (sym c.copy_from_slice.ensures.after) ok.1 in
     record {
       outcome = (ok.0, held);
-      accepts = λ b h. (place, refl, one_body s laws (stored place c.copy-from-slice.new.self) b given held h);
-      refuses = λ f h. absurd (no_body s laws given f h (stored place c.copy-from-slice.new.self) held);
+      accepts = λ b h. (place, refl, one_body s laws (stored place c.copy_from_slice.new.self) b given held h);
+      refuses = λ f h. absurd (no_body s laws given f h (stored place c.copy_from_slice.new.self) held);
     }

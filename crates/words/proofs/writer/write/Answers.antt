@@ -3,8 +3,8 @@ use Rattle.words.proofs.Storing.{stored_limited}
 use Rattle.words.proofs.Writing.{length_words, body_written}
 use Rattle.words.proofs.writer.write.Goals as goal
 
-pub returns-then-c-ge-TOO-WIDE : goal.returns-then-c-ge-TOO-WIDE
-returns-then-c-ge-TOO-WIDE g c =
+pub returns-then-c-ge-TOO_WIDE : goal.returns-then-c-ge-TOO_WIDE
+returns-then-c-ge-TOO_WIDE g c =
     let full : length c.args.place.now.arcs ≡ 512 = search rules in
     record {
       outcome = (omega (arith, g.met.W.Written.words.width_to), refl);
@@ -30,8 +30,8 @@ returns g c =
       outcome = (
         omega arith,
         sym (length_words s count c.args.place.now c.args.weights.now c.requires.kept full c.requires.room c.width-c.result c.width-c.ensures),
-        body_written s count c.args.place.now c.args.weights.now c.requires.kept full c.requires.room c.width-c.result c.head-word.result c.args.out.now c.write-states.new.out c.write-arcs.new.out
-            c.width-c.ensures c.head-word.ensures c.write-states.ensures c.write-arcs.ensures (omega arith),
+        body_written s count c.args.place.now c.args.weights.now c.requires.kept full c.requires.room c.width-c.result c.head_word.result c.args.out.now c.write_states.new.out c.write_arcs.new.out
+            c.width-c.ensures c.head_word.ensures c.write_states.ensures c.write_arcs.ensures (omega arith),
       );
       limited = stored_limited c.args.place.now c.args.weights.now c.requires.kept full c.requires.room;
     }

@@ -6,107 +6,107 @@ use Rattle.recipe.proofs.Moves.{got_prefixed, got_pieces, got_single, got_one, g
 use Rattle.recipe.proofs.Parts.{lost_single, lost_one, lost_times, lost_plus, lost_prefixed, lost_closed, closed_reads, round_reads, begun_at, lost_first, lost_second, lost_third, lost_fourth}
 use Rattle.recipe.proofs.reader.Reader.+closed_part_product_sum.Goals as goal
 
-pub closed-returns-in-err-sum : goal.closed-returns-in-err-sum
-closed-returns-in-err-sum t c =
-    let p = err_from_is_err_and c.from-residual.result c.from-residual.ensures.1 in
-    rw (p.1, p.2) (lost_closed _ c.in-err-sum.ensures)
+pub closed-returns-in_err-sum : goal.closed-returns-in_err-sum
+closed-returns-in_err-sum t c =
+    let p = err_from_is_err_and c.from_residual.result c.from_residual.ensures.1 in
+    rw (p.1, p.2) (lost_closed _ c.in_err-sum.ensures)
 
 pub closed-returns : goal.closed-returns
 closed-returns t c =
-    let g = c.in-ok-sum.ensures in
+    let g = c.in_ok-sum.ensures in
     closed_reads _ _ c.expect.result g.0 g.1 c.expect.ensures
 
 pub part-returns-in-Some : goal.part-returns-in-Some
 part-returns-in-Some t c = c.name.ensures c.args.around
 
-pub part-returns-in-err-part : goal.part-returns-in-err-part
-part-returns-in-err-part t c =
-    let p = err_from_is_err_and c.from-residual-in-err-part.result c.from-residual-in-err-part.ensures.1 in
-    let s = c.in-ok-step.ensures in
+pub part-returns-in_err-part-in-Ahead : goal.part-returns-in_err-part-in-Ahead
+part-returns-in_err-part-in-Ahead t c =
+    let p = err_from_is_err_and c.from_residual-in_err-part-in-Ahead.result c.from_residual-in_err-part-in-Ahead.ensures.1 in
+    let s = c.in_ok-step.ensures in
     let x = begun_at _ _ c.in-Ahead.is s.0 in
-    rw (p.1, p.2) (lost_prefixed x.0 s.1 x.2 c.in-err-part.ensures)
+    rw (p.1, p.2) (lost_prefixed x.0 s.1 x.2 c.in_err-part-in-Ahead.ensures)
 
 pub part-push-requires : goal.part-push-requires
 part-push-requires t c =
-    let s = c.in-ok-step.ensures in
+    let s = c.in_ok-step.ensures in
     let x = begun_at _ _ c.in-Ahead.is s.0 in
-    let g = c.in-ok-part.ensures.0 in
+    let g = c.in_ok-part-in-Ahead.ensures.0 in
     record { fit = g.did.fit; room = room_after (long_prefix x.0) c.requires.fit x.2 g; few = g.did.fit.waits }
 
-pub part-returns-in-err-closed : goal.part-returns-in-err-closed
-part-returns-in-err-closed t c =
-    let p = err_from_is_err_and c.from-residual-in-err-closed.result c.from-residual-in-err-closed.ensures.1 in
-    let s = c.in-ok-step.ensures in
+pub part-returns-in_err-closed-in-Pieces : goal.part-returns-in_err-closed-in-Pieces
+part-returns-in_err-closed-in-Pieces t c =
+    let p = err_from_is_err_and c.from_residual-in_err-closed-in-Pieces.result c.from_residual-in_err-closed-in-Pieces.ensures.1 in
+    let s = c.in_ok-step.ensures in
     let x = begun_at _ _ c.in-Pieces.is s.0 in
-    rw (p.1, p.2) (lost_first s.1 x c.in-err-closed.ensures)
+    rw (p.1, p.2) (lost_first s.1 x c.in_err-closed-in-Pieces.ensures)
 
-pub part-returns-in-err-closed-2 : goal.part-returns-in-err-closed-2
-part-returns-in-err-closed-2 t c =
-    let p = err_from_is_err_and c.from-residual-in-err-closed-2.result c.from-residual-in-err-closed-2.ensures.1 in
-    let s = c.in-ok-step.ensures in
+pub part-returns-in_err-closed-in-Pieces-2 : goal.part-returns-in_err-closed-in-Pieces-2
+part-returns-in_err-closed-in-Pieces-2 t c =
+    let p = err_from_is_err_and c.from_residual-in_err-closed-in-Pieces-2.result c.from_residual-in_err-closed-in-Pieces-2.ensures.1 in
+    let s = c.in_ok-step.ensures in
     let x = begun_at _ _ c.in-Pieces.is s.0 in
-    rw (p.1, p.2) (lost_second s.1 x c.in-ok-closed.ensures.0 c.in-err-closed-2.ensures)
+    rw (p.1, p.2) (lost_second s.1 x c.in_ok-closed-in-Pieces.ensures.0 c.in_err-closed-in-Pieces-2.ensures)
 
-pub part-returns-in-err-closed-3 : goal.part-returns-in-err-closed-3
-part-returns-in-err-closed-3 t c =
-    let p = err_from_is_err_and c.from-residual-in-err-closed-3.result c.from-residual-in-err-closed-3.ensures.1 in
-    let s = c.in-ok-step.ensures in
+pub part-returns-in_err-closed-in-Pieces-3 : goal.part-returns-in_err-closed-in-Pieces-3
+part-returns-in_err-closed-in-Pieces-3 t c =
+    let p = err_from_is_err_and c.from_residual-in_err-closed-in-Pieces-3.result c.from_residual-in_err-closed-in-Pieces-3.ensures.1 in
+    let s = c.in_ok-step.ensures in
     let x = begun_at _ _ c.in-Pieces.is s.0 in
-    rw (p.1, p.2) (lost_third s.1 x c.in-ok-closed.ensures.0 c.in-ok-closed-2.ensures.0 c.in-err-closed-3.ensures)
+    rw (p.1, p.2) (lost_third s.1 x c.in_ok-closed-in-Pieces.ensures.0 c.in_ok-closed-in-Pieces-2.ensures.0 c.in_err-closed-in-Pieces-3.ensures)
 
-pub part-returns-in-err-closed-4 : goal.part-returns-in-err-closed-4
-part-returns-in-err-closed-4 t c =
-    let p = err_from_is_err_and c.from-residual-in-err-closed-4.result c.from-residual-in-err-closed-4.ensures.1 in
-    let s = c.in-ok-step.ensures in
+pub part-returns-in_err-closed-in-Pieces-4 : goal.part-returns-in_err-closed-in-Pieces-4
+part-returns-in_err-closed-in-Pieces-4 t c =
+    let p = err_from_is_err_and c.from_residual-in_err-closed-in-Pieces-4.result c.from_residual-in_err-closed-in-Pieces-4.ensures.1 in
+    let s = c.in_ok-step.ensures in
     let x = begun_at _ _ c.in-Pieces.is s.0 in
-    rw (p.1, p.2) (lost_fourth s.1 x c.in-ok-closed.ensures.0 c.in-ok-closed-2.ensures.0 c.in-ok-closed-3.ensures.0 c.in-err-closed-4.ensures)
+    rw (p.1, p.2) (lost_fourth s.1 x c.in_ok-closed-in-Pieces.ensures.0 c.in_ok-closed-in-Pieces-2.ensures.0 c.in_ok-closed-in-Pieces-3.ensures.0 c.in_err-closed-in-Pieces-4.ensures)
 
 pub part-push-requires-in-Pieces : goal.part-push-requires-in-Pieces
 part-push-requires-in-Pieces t c =
-    let s = c.in-ok-step.ensures in
+    let s = c.in_ok-step.ensures in
     let x = begun_at _ _ c.in-Pieces.is s.0 in
-    let g₁ = c.in-ok-closed.ensures.0 in
-    let g₂ = c.in-ok-closed-2.ensures.0 in
-    let g₃ = c.in-ok-closed-3.ensures.0 in
-    let g₄ = c.in-ok-closed-4.ensures.0 in
+    let g₁ = c.in_ok-closed-in-Pieces.ensures.0 in
+    let g₂ = c.in_ok-closed-in-Pieces-2.ensures.0 in
+    let g₃ = c.in_ok-closed-in-Pieces-3.ensures.0 in
+    let g₄ = c.in_ok-closed-in-Pieces-4.ensures.0 in
     record { fit = g₄.did.fit; room = room_more (room_more (room_more (room_after (omega arith) c.requires.fit x g₁) g₂) g₃) g₄; few = omega (arith, g₄.did.fit.waits) }
 
-pub part-returns-in-ok-part : goal.part-returns-in-ok-part
-part-returns-in-ok-part t c =
-    let s = c.in-ok-step.ensures in
+pub part-returns-in_ok-part-in-Ahead : goal.part-returns-in_ok-part-in-Ahead
+part-returns-in_ok-part-in-Ahead t c =
+    let s = c.in_ok-step.ensures in
     let x = begun_at _ _ c.in-Ahead.is s.0 in
-    (got_prefixed x.0 x.1 s.1 x.2 c.in-ok-part.ensures.0 c.push.ensures, tt)
+    (got_prefixed x.0 x.1 s.1 x.2 c.in_ok-part-in-Ahead.ensures.0 c.push.ensures, tt)
 
 pub part-returns-in-Bracket : goal.part-returns-in-Bracket
 part-returns-in-Bracket t c =
-    let s = c.in-ok-step.ensures in
+    let s = c.in_ok-step.ensures in
     let x = begun_at _ _ c.in-Bracket.is s.0 in
     round_reads _ c.closed.result s.1 x c.closed.ensures
 
-pub part-returns-in-ok-closed-4 : goal.part-returns-in-ok-closed-4
-part-returns-in-ok-closed-4 t c =
-    let s = c.in-ok-step.ensures in
+pub part-returns-in_ok-closed-in-Pieces-4 : goal.part-returns-in_ok-closed-in-Pieces-4
+part-returns-in_ok-closed-in-Pieces-4 t c =
+    let s = c.in_ok-step.ensures in
     let x = begun_at _ _ c.in-Pieces.is s.0 in
-    (got_pieces s.1 x c.in-ok-closed.ensures.0 c.in-ok-closed-2.ensures.0 c.in-ok-closed-3.ensures.0 c.in-ok-closed-4.ensures.0 c.push-in-Pieces.ensures, tt)
+    (got_pieces s.1 x c.in_ok-closed-in-Pieces.ensures.0 c.in_ok-closed-in-Pieces-2.ensures.0 c.in_ok-closed-in-Pieces-3.ensures.0 c.in_ok-closed-in-Pieces-4.ensures.0 c.push-in-Pieces.ensures, tt)
 
-pub product-returns-in-err-part : goal.product-returns-in-err-part
-product-returns-in-err-part t c =
-    let p = err_from_is_err_and c.from-residual.result c.from-residual.ensures.1 in
-    rw (p.1, p.2) (lost_single c.in-err-part.ensures)
+pub product-returns-in_err-part : goal.product-returns-in_err-part
+product-returns-in_err-part t c =
+    let p = err_from_is_err_and c.from_residual.result c.from_residual.ensures.1 in
+    rw (p.1, p.2) (lost_single c.in_err-part.ensures)
 
-pub product-returns-in-err-part-2 : goal.product-returns-in-err-part-2
-product-returns-in-err-part-2 t c =
-    let p = err_from_is_err_and c.from-residual-in-err-part-2.result c.from-residual-in-err-part-2.ensures.1 in
-    rw (p.1, p.2) (lost_times (c.loop-mark.invariant.2 _ (got_single c.in-ok-part.ensures.0)) c.loop-mark-test.ensures c.in-err-part-2.ensures)
+pub product-returns-in_err-part-2 : goal.product-returns-in_err-part-2
+product-returns-in_err-part-2 t c =
+    let p = err_from_is_err_and c.from_residual-in_err-part-2.result c.from_residual-in_err-part-2.ensures.1 in
+    rw (p.1, p.2) (lost_times (c.loop-mark.invariant.2 _ (got_single c.in_ok-part.ensures.0)) c.loop-mark-test.ensures c.in_err-part-2.ensures)
 
 pub product-push-requires : goal.product-push-requires
 product-push-requires t c =
-    let g = c.in-ok-part-2.ensures.0 in
+    let g = c.in_ok-part-2.ensures.0 in
     record { fit = g.did.fit; room = room_after (omega arith) c.loop-mark.invariant.0 c.loop-mark-test.ensures g; few = omega (arith, g.did.fit.waits) }
 
 pub product-loop-mark-preserved : goal.product-loop-mark-preserved
 product-loop-mark-preserved t c =
-    let g = c.in-ok-part-2.ensures.0 in
+    let g = c.in_ok-part-2.ensures.0 in
     let k = c.loop-mark-test.ensures in
     (c.push.ensures.did.fit, c.push.ensures.did.same ∙ g.did.same ∙ k.did.same ∙ c.loop-mark.invariant.1, λ a q. got_times (c.loop-mark.invariant.2 a q) k g c.push.ensures)
 
@@ -114,26 +114,26 @@ pub product-returns : goal.product-returns
 product-returns t c =
     let k = c.loop-mark-test.ensures in
     subst (λ v. Got product c.args.around c.args.self.now v × (first (left v) ≡ Some 42 → ⊥)) (sym k.0)
-    (c.loop-mark.invariant.2 _ (got_single c.in-ok-part.ensures.0), k.1)
+    (c.loop-mark.invariant.2 _ (got_single c.in_ok-part.ensures.0), k.1)
 
-pub sum-returns-in-err-product : goal.sum-returns-in-err-product
-sum-returns-in-err-product t c =
-    let p = err_from_is_err_and c.from-residual.result c.from-residual.ensures.1 in
-    rw (p.1, p.2) (lost_one c.in-err-product.ensures)
+pub sum-returns-in_err-product : goal.sum-returns-in_err-product
+sum-returns-in_err-product t c =
+    let p = err_from_is_err_and c.from_residual.result c.from_residual.ensures.1 in
+    rw (p.1, p.2) (lost_one c.in_err-product.ensures)
 
-pub sum-returns-in-err-product-2 : goal.sum-returns-in-err-product-2
-sum-returns-in-err-product-2 t c =
-    let p = err_from_is_err_and c.from-residual-in-err-product-2.result c.from-residual-in-err-product-2.ensures.1 in
-    rw (p.1, p.2) (lost_plus (c.loop-mark.invariant.2 _ (got_one c.in-ok-product.ensures.0)) c.loop-mark-test.ensures c.in-err-product-2.ensures)
+pub sum-returns-in_err-product-2 : goal.sum-returns-in_err-product-2
+sum-returns-in_err-product-2 t c =
+    let p = err_from_is_err_and c.from_residual-in_err-product-2.result c.from_residual-in_err-product-2.ensures.1 in
+    rw (p.1, p.2) (lost_plus (c.loop-mark.invariant.2 _ (got_one c.in_ok-product.ensures.0)) c.loop-mark-test.ensures c.in_err-product-2.ensures)
 
 pub sum-push-requires : goal.sum-push-requires
 sum-push-requires t c =
-    let g = c.in-ok-product-2.ensures.0 in
+    let g = c.in_ok-product-2.ensures.0 in
     record { fit = g.did.fit; room = room_after (omega arith) c.loop-mark.invariant.0 c.loop-mark-test.ensures g; few = omega (arith, g.did.fit.waits) }
 
 pub sum-loop-mark-preserved : goal.sum-loop-mark-preserved
 sum-loop-mark-preserved t c =
-    let g = c.in-ok-product-2.ensures in
+    let g = c.in_ok-product-2.ensures in
     let k = c.loop-mark-test.ensures in
     (c.push.ensures.did.fit, c.push.ensures.did.same ∙ g.0.did.same ∙ k.did.same ∙ c.loop-mark.invariant.1, λ a q. got_plus (c.loop-mark.invariant.2 a q) k g.0 c.push.ensures, λ e. g.1 (ap first c.push.ensures.did.split ∙ e))
 
@@ -141,4 +141,4 @@ pub sum-returns : goal.sum-returns
 sum-returns t c =
     let k = c.loop-mark-test.ensures in
     subst (λ v. Got sum c.args.around c.args.self.now v × ((first (left v) ≡ Some 42 → ⊥) × (first (left v) ≡ Some 43 → ⊥))) (sym k.0)
-    (c.loop-mark.invariant.2 _ (got_one c.in-ok-product.ensures.0), (c.loop-mark.invariant.3, k.1))
+    (c.loop-mark.invariant.2 _ (got_one c.in_ok-product.ensures.0), (c.loop-mark.invariant.3, k.1))

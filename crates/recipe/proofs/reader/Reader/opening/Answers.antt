@@ -22,9 +22,9 @@ returns-else-take-5 c =
     (subst (λ v. first (left v) ≡ Some 40 → ⊥) e₃ t₄.1)
     (subst (λ v. first (left v) ≡ Some 91 → ⊥) e₄ t₅.1)
 
-pub returns-then-around-ge-MAX-LEVEL : goal.returns-then-around-ge-MAX-LEVEL
-returns-then-around-ge-MAX-LEVEL c =
-    let lo : 16 ≤ c.args.around = omega (arith, c.if-around-ge-MAX-LEVEL.true) in
+pub returns-then-around-ge-MAX_LEVEL : goal.returns-then-around-ge-MAX_LEVEL
+returns-then-around-ge-MAX_LEVEL c =
+    let lo : 16 ≤ c.args.around = omega (arith, c.if-around-ge-MAX_LEVEL.true) in
     let hi = c.requires.deep in
     elim c.if-take.branch [
       | then-take w ↦ lost_level At c.requires.fit lo hi refl w.if-take.ensures

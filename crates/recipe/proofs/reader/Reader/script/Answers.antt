@@ -9,17 +9,17 @@ loop-self-init c = got_blank c.requires.fit
 
 pub loop-self-smaller : goal.loop-self-smaller
 loop-self-smaller c =
-    let g = c.in-ok-line.ensures.0 in
+    let g = c.in_ok-line.ensures.0 in
     let i = c.loop-self.invariant in
     omega (arith, g.did.on, long_line g.tree, g.did.fit.inside, ap length g.did.same, ap length i.did.same)
 
 pub loop-self-preserved : goal.loop-self-preserved
-loop-self-preserved c = got_next c.loop-self.invariant c.in-ok-line.ensures.0
+loop-self-preserved c = got_next c.loop-self.invariant c.in_ok-line.ensures.0
 
-pub returns-in-err-line : goal.returns-in-err-line
-returns-in-err-line c =
-    let p = err_from_is_err_and c.from-residual.result c.from-residual.ensures.1 in
-    rw (p.1, p.2) (lost_next c.loop-self.invariant c.in-err-line.ensures)
+pub returns-in_err-line : goal.returns-in_err-line
+returns-in_err-line c =
+    let p = err_from_is_err_and c.from_residual.result c.from_residual.ensures.1 in
+    rw (p.1, p.2) (lost_next c.loop-self.invariant c.in_err-line.ensures)
 
 pub returns : goal.returns
 returns c = (c.loop-self.invariant, drop_all _ _ c.loop-self-test.false)

@@ -1,5 +1,5 @@
 use Rattle.std.proofs.Common.{sym, subst, arith}
-use Rattle.std.specs.List.{AllByRecursion as All}
+use Rattle.std.specs.List.{AllByRecursion}
 use Rattle.picture.specs.Bodies.{Within}
 use Rattle.tile.proofs.automaton.Automaton.step_column.Goals as goal
 
@@ -10,6 +10,6 @@ step-column-requires g c =
       indexed = ready.out_of;
       weighted = ready.weighted;
       states = omega (arith, ready.few, c.requires.column);
-      ends = subst (λ n. All (Within n) c.args.self.now.arcs.now) (sym c.requires.column) ready.ends;
+      ends = subst (λ n. AllByRecursion (Within n) c.args.self.now.arcs.now) (sym c.requires.column) ready.ends;
       below = omega (arith, ready.few, c.requires.next);
     }

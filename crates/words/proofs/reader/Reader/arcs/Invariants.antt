@@ -1,5 +1,5 @@
 use Rattle.std.proofs.Common.{take}
-use Rattle.std.specs.List.{zip, flat_map, AllByRecursion as All}
+use Rattle.std.specs.List.{zip, flat_map, AllByRecursion}
 use Rattle.picture.specs.Bodies.{Within}
 use Rattle.words.specs.Format.{edge_words}
 use Rattle.words.specs.Inner.{Took}
@@ -7,4 +7,4 @@ use Rattle.words.proofs.reader.Reader.arcs.Given as goal
 
 abbrev pub invariant-loop-k : goal.invariant-loop-k
 invariant-loop-k g l =
-    All (Within l.n) (take l.k l.arcs) × Took (flat_map (edge_words g.W.Written.writing) (zip (take l.k l.arcs) (take l.k l.weights))) l.initial.self l.self
+    AllByRecursion (Within l.n) (take l.k l.arcs) × Took (flat_map (edge_words g.W.Written.writing) (zip (take l.k l.arcs) (take l.k l.weights))) l.initial.self l.self
