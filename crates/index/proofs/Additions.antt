@@ -1,6 +1,6 @@
 -- Sums over the places of a key.
 use Rattle.std.proofs.Common.{◌≡◌, ℕ, ◌+◌, ◌*◌, ◌<◌, ◌≤◌, Bool, true, false, cond, ◌&&◌, eqb, List, [], ◌∷◌, length, get_or, drop, set, filter, sym, refl, ap, ◌∙◌, subst, ap₂, arith}
-use Rattle.std.specs.List.{zip, range_with_len, AllByRecursion}
+use Rattle.std.specs.List.{zip, range_with_len, AllByRecursion as All}
 use Rattle.std.proofs.lemmas.List.FromFn.{fill_by_all}
 use Rattle.std.proofs.lemmas.List.Edits.{fill_by_more}
 use Rattle.std.proofs.ByRecursion.{All-get_or}
@@ -50,7 +50,7 @@ module _ {W : Type 0} {k : Kind W} (laws : Laws k) where
 
   module _ (arcs : List Arc) (weights : List W) (weighted : length weights ≡ length arcs) (term : Edge W → W) where
     -- a sum over the places of a key is one over the arcs with a test
-    total_placed : (f : Arc → ℕ) (m : ℕ) (test : Arc → Bool) (P : Arc → Type 0) → AllByRecursion P arcs → ((a : Arc) → P a → eqb (f a) m ≡ test a)
+    total_placed : (f : Arc → ℕ) (m : ℕ) (test : Arc → Bool) (P : Arc → Type 0) → All P arcs → ((a : Arc) → P a → eqb (f a) m ≡ test a)
         → total k (placed (λ i. f (get_or arcs i none)) (length arcs) m) (λ i. term (edge_at k arcs weights i)) ≡ total k (zip arcs weights) (λ e. cond (test e.0) (term e) k.zero)
     total_placed f m test P all same_test =
         total_kept (λ i. eqb (f (get_or arcs i none)) m) _ (range_with_len 0 (length arcs))
@@ -72,7 +72,7 @@ module _ {W : Type 0} {k : Kind W} (laws : Laws k) where
             ap (λ b. cond b (term (edge_at k arcs weights i)) k.zero) (same_test (get_or arcs i none) (All-get_or P arcs i none h all))
             ∙ ap adds (sym (get_or-zip arcs weights i past h (omega arith)))
 
-    module _ (e : End) (x : Index) (indexed : Indexed e arcs x) (n : ℕ) (few : n ≤ 64) (ends : AllByRecursion (Within n) arcs) (d : Quadrant) where
+    module _ (e : End) (x : Index) (indexed : Indexed e arcs x) (n : ℕ) (few : n ≤ 64) (ends : All (Within n) arcs) (d : Quadrant) where
       -- the sum over the arcs that have the digit and the state
       abbrev entry_of : ℕ → W
       entry_of s = total k (zip arcs weights) (λ a. cond (eqb s (end_of e a.0) && same d a.0.quadrant) (term a) k.zero)
