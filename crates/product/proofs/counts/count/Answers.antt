@@ -6,7 +6,7 @@ use Rattle.picture.specs.declared.quadrant.Quadrant.TheVariants.{UpperLeft}
 use Rattle.product.specs.Counts.{tally}
 use Rattle.product.proofs.Counting.{tally_same, tally_other}
 use Rattle.product.proofs.counts.count.Goals as goal
-use Rattle.product.proofs.counts.count.Goals.{then_is, else_is}
+use Rattle.product.proofs.counts.count.Goals.{then-is, else-is}
 
 -- the default at which an arc is read
 abbrev none : Arc
@@ -15,10 +15,10 @@ none = arc_from 0 0 UpperLeft
 pub loop-arc-preserved : goal.loop-arc-preserved
 loop-arc-preserved c =
     elim c.if-is.branch [
-      | then_is w ↦
+      | then-is w ↦
           let e = tally_same c.args.quadrant c.args.arcs.now c.loop-arc.arc-index none c.loop-arc-test.true (sym w.if-is.ensures) in
           (omega (arith, w.n-is), omega (arith, w.n-is))
-      | else_is w ↦
+      | else-is w ↦
           let e = tally_other c.args.quadrant c.args.arcs.now c.loop-arc.arc-index none c.loop-arc-test.true (sym w.if-is.ensures) in
           (omega (arith, w.n-is), omega (arith, w.n-is))
     ]
