@@ -9,7 +9,7 @@ returns g c =
     let h = c.args.self.now.height in
     let rs = c.args.self.now.records in
     record {
-      body = ap (stored (get_or rs (h - 1) no_record)) c.copy-from-slice.ensures.after ∙ sym (body_in_slot h 0 (h - 1) rs c.args.work.now (omega arith));
+      body = ap (stored (get_or rs (h - 1) no_record)) c.copy_from_slice.ensures.after ∙ sym (body_in_slot h 0 (h - 1) rs c.args.work.now (omega arith));
       rest = sym (drop_waiting 1 h rs c.args.work.now);
       kept = c.requires.ready.kept (h - 1) (omega arith);
       height = refl;

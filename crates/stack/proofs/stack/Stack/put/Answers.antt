@@ -8,7 +8,7 @@ returns g c =
     let slot = c.args.slot in
     let six : length rs ≡ 6 = search rules in
     record {
-      bodies = put_bodies slot _ rs c.args.place.now c.args.work.now _ c.args.weights.now (omega arith) (omega arith) c.copy-from-slice.ensures.after c.requires.full;
+      bodies = put_bodies slot _ rs c.args.place.now c.args.work.now _ c.args.weights.now (omega arith) (omega arith) c.copy_from_slice.ensures.after c.requires.full;
       height = refl;
       ready = record {
         few = omega arith;
