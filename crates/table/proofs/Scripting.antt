@@ -1,5 +1,5 @@
 -- A script, line by line.
-use Rattle.std.proofs.Common.{◌≡◌, ℕ, suc, ◌+◌, ◌<◌, ◌≤◌, List, [], length, drop, Some, None, Ok, Err, sym, refl, ap, ◌∙◌, subst, ap₂, add-zero, zero-add, arith}
+use Rattle.std.proofs.Common.{◌≡◌, ℕ, suc, ◌+◌, ◌<◌, ◌≤◌, List, [], length, drop, Ok, Err, sym, ap, ◌∙◌, subst, add-zero, zero-add, arith}
 use Rattle.std.proofs.lemmas.List.{drop_all, drop-drop}
 use Rattle.weight.specs.Kinds.{Kind}
 use Rattle.picture.specs.Bodies.{Body}
@@ -10,7 +10,6 @@ use Rattle.recipe.specs.declared.step.Step.{Step}
 use Rattle.stack.specs.Drawing.{drawing}
 use Rattle.stack.specs.Waiting.{Ready, waiting}
 use Rattle.stack.specs.declared.fault.LineFault.{LineFault}
-use Rattle.stack.specs.declared.fault.StepFault.{StepFault}
 use Rattle.stack.specs.declared.stack.Stack.{Stack}
 use Rattle.table.specs.Performing.{work, waiting_in, lines_done, Performed}
 use Rattle.table.specs.Limits.{AllKept}

@@ -29,7 +29,7 @@ returns-in-Store g c =
 pub step-requires : goal.step-requires
 step-requires g c =
     let r = c.loop-i.invariant in
-    record { inside = stores_not _ c.in-default.not-Store; fits = here_fits _ _ _ _ _ _ _ _ _ r _ _ refl (omega arith); kept = r.kept; ready = r.ready; bays = r.long }
+    record { inside = stores_not _ c.in_default.not-Store; fits = here_fits _ _ _ _ _ _ _ _ _ r _ _ refl (omega arith); kept = r.kept; ready = r.ready; bays = r.long }
 
 pub returns-in-Err : goal.returns-in-Err
 returns-in-Err g c =
@@ -44,7 +44,7 @@ returns-in-Err g c =
 pub loop-i-preserved : goal.loop-i-preserved
 loop-i-preserved g c =
     let r = c.loop-i.invariant in
-    reached_more _ _ _ _ _ _ _ _ _ r _ _ refl (omega arith) _ _ (stores_not _ c.in-default.not-Store) c.step.ensures.ready (omega arith) c.step.ensures.places c.in-default-step.ensures.height c.in-default-step.ensures.stepped
+    reached_more _ _ _ _ _ _ _ _ _ r _ _ refl (omega arith) _ _ (stores_not _ c.in_default.not-Store) c.step.ensures.ready (omega arith) c.step.ensures.places c.in_default-step.ensures.height c.in_default-step.ensures.stepped
 
 pub unreachable-requires : goal.unreachable-requires
 unreachable-requires g c = never_ends _ _ _ _ _ _ _ _ _ c.loop-i.invariant c.requires.some (omega arith)

@@ -14,7 +14,7 @@ push-requires g c =
       ready = c.requires.ready;
       room = c.requires.room;
       kept = read_kept c.args.self.now c.args.place c.«record».result.now c.«record».ensures c.requires.kept;
-      full = ap length c.copy-from-slice.ensures.after ∙ length_bay c.number.result c.args.memory.now (omega arith);
+      full = ap length c.copy_from_slice.ensures.after ∙ length_bay c.number.result c.args.memory.now (omega arith);
       bays = search rules;
     }
 
@@ -27,7 +27,7 @@ returns g c =
       waiting =
           ap (bodies c.push.new.self) (between-put_mid 5120 3840 memory written 8960 (omega arith) long)
           ∙ c.push.ensures.bodies
-          ∙ ap₂ ◌∷◌ (ap₂ stored c.«record».ensures (c.copy-from-slice.ensures.after ∙ ap (λ n. bay n memory) c.number.ensures)) refl;
+          ∙ ap₂ ◌∷◌ (ap₂ stored c.«record».ensures (c.copy_from_slice.ensures.after ∙ ap (λ n. bay n memory) c.number.ensures)) refl;
       places = bodies_before c.args.self.now 5120 3840 memory written (omega arith) (omega arith);
       height = c.push.ensures.height;
       ready = c.push.ensures.ready;

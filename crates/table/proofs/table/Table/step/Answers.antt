@@ -1,6 +1,5 @@
-use Rattle.std.proofs.Common.{◌≡◌, List, length, sym, ap, subst, arith}
+use Rattle.std.proofs.Common.{◌≡◌, length, sym, ap, subst, arith}
 use Rattle.std.proofs.lemmas.Slice.{between-put_mid}
-use Rattle.picture.specs.Bodies.{Body}
 use Rattle.stack.specs.Waiting.{bodies}
 use Rattle.table.specs.Performing.{waiting_in, Stepped}
 use Rattle.table.specs.Tables.{body_of}

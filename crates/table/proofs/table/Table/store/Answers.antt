@@ -17,14 +17,14 @@ returns g c =
     let memory = c.args.memory.now in
     let a = 640 * c.number.result in
     let size : a + 640 - a ≡ 640 = omega arith in
-    let ys = c.copy-from-slice.new.self in
-    let full : length ys ≡ a + 640 - a = ap length c.copy-from-slice.ensures.after ∙ search rules ∙ sym size in
+    let ys = c.copy_from_slice.new.self in
+    let full : length ys ≡ a + 640 - a = ap length c.copy_from_slice.ensures.after ∙ search rules ∙ sym size in
     let from : a ≡ 640 * number p = ap (λ n. 640 * n) c.number.ensures in
     let low = number_below p in
     record {
       places =
           bodies_put t u p c.pop-latest.result c.put.ensures.places a _ memory ys from size (omega arith) full
-          ∙ ap (λ b. put p b (body_of t memory)) (ap (stored c.pop-latest.result) c.copy-from-slice.ensures.after ∙ c.pop-latest.ensures.body);
+          ∙ ap (λ b. put p b (body_of t memory)) (ap (stored c.pop-latest.result) c.copy_from_slice.ensures.after ∙ c.pop-latest.ensures.body);
       waiting = ap (bodies c.pop-latest.new.self) (work_stays p a _ memory ys from size (omega arith) full) ∙ c.pop-latest.ensures.rest;
       height = c.pop-latest.ensures.height;
       ready = c.pop-latest.ensures.ready;
