@@ -35,7 +35,7 @@ fn steps_in_order(rt: HostRuntime) -> Result<(), Fail> {
     let sum = read(b"A=A+@@@B\n")?;
     assert_eq!(rt;
         sum.steps(),
-        &[
+        [
             Step::Name(Place::A),
             Step::Name(Place::B),
             Step::Turn,
@@ -44,11 +44,12 @@ fn steps_in_order(rt: HostRuntime) -> Result<(), Fail> {
             Step::Add(3),
             Step::Store(Place::A),
         ]
+        .as_slice()
     );
     let product = read(b"H=A*B*|^2C\n")?;
     assert_eq!(rt;
         product.steps(),
-        &[
+        [
             Step::Name(Place::A),
             Step::Name(Place::B),
             Step::Multiply(3),
@@ -58,6 +59,7 @@ fn steps_in_order(rt: HostRuntime) -> Result<(), Fail> {
             Step::Multiply(5),
             Step::Store(Place::H),
         ]
+        .as_slice()
     );
     Ok(())
 }

@@ -61,9 +61,9 @@ fn write_back<W: Shown>(
         println!(rt; "refused {number}: the body is not written")?;
         return Ok(());
     }
-    print!(rt, "words")?;
+    print!(rt; "words")?;
     for word in words.iter() {
-        print!(rt, " {word:08x}")?;
+        print!(rt; " {word:08x}")?;
     }
     println!(rt; "")?;
     Ok(())

@@ -10,6 +10,7 @@ mod room;
 mod shown;
 mod tiles;
 
+use anyhow::anyhow;
 use kinds::Task;
 use std::env;
 use tiles::Tile;
@@ -42,7 +43,7 @@ fn run(rt: &HostRuntime) -> anyhow::Result<()> {
             let tile = Tile::parse(depth.as_str(), length.as_str(), prefix.as_str())?;
             kinds::carry_out(rt, &drawings::input(rt)?, Task::Picture(tile))
         }
-        _ => Err(USAGE.into()),
+        _ => Err(anyhow!(USAGE)),
     }
 }
 

@@ -29,7 +29,7 @@ fn refuse(rt: &HostRuntime, fault: Fault) -> anyhow::Result<()> {
     match fault.byte() {
         Some(byte) => {
             for _ in 0..byte {
-                print!(rt, " ")?;
+                print!(rt; " ")?;
             }
             println!(rt; "       ^")?;
             println!(rt; "refused {number} byte {byte}: {why}")?;

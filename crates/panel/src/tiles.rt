@@ -98,7 +98,7 @@ fn rows<W: Shown>(rt: &HostRuntime, cells: &[W], side: usize) -> anyhow::Result<
         if (i + 1) % side.max(1) == 0 {
             println!(rt; "{text}")?;
         } else {
-            print!(rt, "{text} ")?;
+            print!(rt; "{text} ")?;
         }
     }
     Ok(())
