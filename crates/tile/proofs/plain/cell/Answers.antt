@@ -10,7 +10,7 @@ use Rattle.tile.proofs.plain.cell.Goals as goal
 pub travel-requires : goal.travel-requires
 travel-requires g c =
     let sound = stored_sound c.args.place.now c.args.weights.now c.requires.kept c.requires.weights in
-    let long : length c.copy-from-slice.new.self ≡ c.args.place.now.states = ap length c.copy-from-slice.ensures.after ∙ sound.firsts in
+    let long : length c.copy_from_slice.new.self ≡ c.args.place.now.states = ap length c.copy_from_slice.ensures.after ∙ sound.firsts in
     record {
       ends = All-weaker (λ e. Within c.args.place.now.states e.0) _ (λ e x. subst (λ n. e.0.from < n) (sym long) x.0) _ sound.ends;
       next = search rules;
@@ -21,6 +21,6 @@ returns g c =
     let k = g.W.Weight.kind in
     let b = stored c.args.place.now c.args.weights.now in
     let sound = stored_sound c.args.place.now c.args.weights.now c.requires.kept c.requires.weights in
-    let first = c.copy-from-slice.ensures.after in
+    let first = c.copy_from_slice.ensures.after in
     cell_is g.met.W.Weight.laws b sound c.args.address.now _ _
     (c.travel.ensures ∙ ap₂ (λ n row. carried k b.arcs n c.args.address.now row) (ap length first ∙ sound.firsts) first) c.meet.ensures

@@ -14,7 +14,7 @@ loop-quadrant-preserved g c =
     let edges = zip c.args.arcs.now c.args.weights.now in
     let long : length c.loop-quadrant.next ≡ length c.args.row.now = omega arith in
     along_more k edges (length c.args.row.now) c.loop-quadrant.row _ _ c.args.address.now c.loop-quadrant.quadrant-index UpperLeft c.loop-quadrant-test.true
-    (c.copy-from-slice.ensures.after ∙ c.advance.ensures ∙ ap (λ n. stepped k edges n c.loop-quadrant.row (get_or c.args.address.now c.loop-quadrant.quadrant-index UpperLeft)) long)
+    (c.copy_from_slice.ensures.after ∙ c.advance.ensures ∙ ap (λ n. stepped k edges n c.loop-quadrant.row (get_or c.args.address.now c.loop-quadrant.quadrant-index UpperLeft)) long)
     c.loop-quadrant.invariant
 
 pub returns : goal.returns

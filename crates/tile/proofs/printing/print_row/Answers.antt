@@ -18,7 +18,7 @@ returns g c =
       fits = omega arith;
       cells =
           ap₂ ◌++◌
-          (c.cell-row.ensures
+          (c.cell_row.ensures
           ∙ row_is k (body c.new-body.result) c.along-row.result.now u c.in-Some.deep c.along-row.ensures.value c.args.y
           ∙ ap₂ (λ b d. map (picture k b) (row_of_cells u d c.args.y)) c.new-body.ensures.body named.1)
           (ap (λ n. drop n c.args.cells.now) (omega arith));

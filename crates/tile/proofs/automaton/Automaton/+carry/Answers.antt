@@ -23,6 +23,6 @@ returns g t c =
     let len = length c.args.rows.now in
     let two = two_halves len c.args.depth a.states c.requires.rows (λ e. omega arith) in
     two_parts (len / 2) c.args.rows.now c.carry.new.rows c.carry-2.new.rows two (search rules) (search rules)
-    ∙ rows_more k (edges a) a.states c.args.row.now c.args.y c.step-row.new.next c.step-row-2.new.next _ _ c.args.depth (c.args.depth - 1)
-    (omega arith) (c.step-row.ensures ∙ ap (stepped k (edges a) a.states c.args.row.now) c.named.ensures)
-    (c.step-row-2.ensures ∙ ap (stepped k (edges a) a.states c.args.row.now) c.named-2.ensures) c.carry.ensures c.carry-2.ensures
+    ∙ rows_more k (edges a) a.states c.args.row.now c.args.y c.step_row.new.next c.step_row-2.new.next _ _ c.args.depth (c.args.depth - 1)
+    (omega arith) (c.step_row.ensures ∙ ap (stepped k (edges a) a.states c.args.row.now) c.named.ensures)
+    (c.step_row-2.ensures ∙ ap (stepped k (edges a) a.states c.args.row.now) c.named-2.ensures) c.carry.ensures c.carry-2.ensures

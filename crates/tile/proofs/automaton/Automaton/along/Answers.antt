@@ -10,5 +10,5 @@ returns g c =
     let k = g.W.Weight.kind in
     record {
       long = search rules;
-      value = λ w. c.follow.ensures w ∙ ap (λ row. value k (body c.args.self.now) (at_state k row) (base_four c.args.digits c.args.prefix ++ w)) c.copy-from-slice.ensures.after;
+      value = λ w. c.follow.ensures w ∙ ap (λ row. value k (body c.args.self.now) (at_state k row) (base_four c.args.digits c.args.prefix ++ w)) c.copy_from_slice.ensures.after;
     }

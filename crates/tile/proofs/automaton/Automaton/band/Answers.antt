@@ -1,4 +1,4 @@
-use Rattle.std.proofs.Common.{◌≡◌, ◌+◌, ◌*◌, ◌/◌, ◌^◌, ◌≤◌, length, take, sym, ap, ◌∙◌, ap₂, arith, rules}
+use Rattle.std.proofs.Common.{◌≡◌, ◌+◌, ◌*◌, ◌/◌, ◌^◌, length, take, sym, ap, ◌∙◌, ap₂, arith, rules}
 use borrow.Author.Rules.{scaled_fits≤}
 use lib.Arith.{digits_div}
 use Rattle.std.specs.List.{range_with_len, flat_map}
@@ -10,13 +10,13 @@ use Rattle.tile.proofs.Meets.{length_columns, line_is}
 use Rattle.tile.proofs.Squares.{part_room, part_long, part_written, all_written}
 use Rattle.tile.proofs.automaton.Automaton.band.Goals as goal
 
-pub offset-bounds-cells-i : goal.offset-bounds-cells-i
-offset-bounds-cells-i g c =
+pub offset_bounds-cells-i : goal.offset_bounds-cells-i
+offset_bounds-cells-i g c =
     let h = part_room c.loop-i.i _ _ c.side-high.result c.side-wide.result _ c.side-high.ensures c.side-wide.ensures c.requires.cells c.loop-i-test.true in
     scaled_fits≤ (c.loop-i.i * c.side-wide.result) (length c.args.cells.now) _ (omega arith) (search rules)
 
-pub slice-bounds-part-end : goal.slice-bounds-part-end
-slice-bounds-part-end g c = part_room c.loop-i.i _ _ c.side-high.result c.side-wide.result _ c.side-high.ensures c.side-wide.ensures (c.loop-i.invariant.0 ∙ c.requires.cells) c.loop-i-test.true
+pub slice_bounds-part-end : goal.slice_bounds-part-end
+slice_bounds-part-end g c = part_room c.loop-i.i _ _ c.side-high.result c.side-wide.result _ c.side-high.ensures c.side-wide.ensures (c.loop-i.invariant.0 ∙ c.requires.cells) c.loop-i-test.true
 
 pub line-requires : goal.line-requires
 line-requires g c =

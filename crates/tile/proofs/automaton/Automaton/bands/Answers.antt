@@ -1,4 +1,4 @@
-use Rattle.std.proofs.Common.{◌≡◌, ◌+◌, ◌*◌, ◌≤◌, length, ◌∙◌, ap₂, arith, rules}
+use Rattle.std.proofs.Common.{◌≡◌, ◌+◌, ◌*◌, length, ◌∙◌, ap₂, arith, rules}
 use borrow.Author.Rules.{scaled_fits≤}
 use Rattle.tile.specs.Automata.{body}
 use Rattle.tile.specs.Bands.{cells_in_row}
@@ -7,13 +7,13 @@ use Rattle.tile.proofs.Squares.{part_room, part_long, part_written}
 use Rattle.tile.proofs.Tops.{bands_all}
 use Rattle.tile.proofs.automaton.Automaton.bands.Goals as goal
 
-pub offset-bounds-cells-y : goal.offset-bounds-cells-y
-offset-bounds-cells-y g c =
+pub offset_bounds-cells-y : goal.offset_bounds-cells-y
+offset_bounds-cells-y g c =
     let h = part_room c.loop-y.y _ _ c.side-count.result (c.side.result * c.side-2.result) _ c.side-count.ensures (ap₂ ◌*◌ c.side.ensures c.side-2.ensures) c.requires.cells c.loop-y-test.true in
     scaled_fits≤ (c.loop-y.y * (c.side.result * c.side-2.result)) (length c.args.cells.now) _ (omega arith) (search rules)
 
-pub slice-bounds-part-end : goal.slice-bounds-part-end
-slice-bounds-part-end g c = part_room c.loop-y.y _ _ c.side-count.result (c.side.result * c.side-2.result) _ c.side-count.ensures (ap₂ ◌*◌ c.side.ensures c.side-2.ensures) (c.loop-y.invariant.0 ∙ c.requires.cells) c.loop-y-test.true
+pub slice_bounds-part-end : goal.slice_bounds-part-end
+slice_bounds-part-end g c = part_room c.loop-y.y _ _ c.side-count.result (c.side.result * c.side-2.result) _ c.side-count.ensures (ap₂ ◌*◌ c.side.ensures c.side-2.ensures) (c.loop-y.invariant.0 ∙ c.requires.cells) c.loop-y-test.true
 
 pub band-requires : goal.band-requires
 band-requires g c =

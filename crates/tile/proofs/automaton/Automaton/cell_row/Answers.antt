@@ -1,4 +1,4 @@
-use Rattle.std.proofs.Common.{◌≡◌, ◌+◌, ◌-◌, ◌/◌, ◌^◌, sym, refl, ap, ◌∙◌, arith, rules}
+use Rattle.std.proofs.Common.{◌≡◌, ◌+◌, ◌-◌, ◌/◌, ◌^◌, refl, ap, ◌∙◌, arith, rules}
 use Rattle.tile.specs.Automata.{body, edges}
 use Rattle.tile.specs.Bands.{cells_in_row}
 use Rattle.tile.proofs.Meets.{length_columns, line_is}

@@ -12,12 +12,12 @@ returns-in-1 g c =
     lift_columns k (edges a) a.states _ 0 c.args.column.now _ (omega arith) c.requires.column (no_digits k (edges a) a.states c.args.column.now) c.lift.ensures
     ∙ ap (columns_along k (edges a) a.states c.args.column.now) digits
 
-pub returns-in-default : goal.returns-in-default
-returns-in-default g c =
+pub returns-in_default : goal.returns-in_default
+returns-in_default g c =
     let a = c.args.self.now in
     let k = g.W.Weight.kind in
     let digits : 2 ≡ c.args.digits = omega arith in
     lift_columns k (edges a) a.states _ 1 c.args.column.now _ (omega arith) c.requires.column
-    (lift_columns k (edges a) a.states _ 0 c.args.column.now _ (omega arith) c.requires.column (no_digits k (edges a) a.states c.args.column.now) c.lift-in-default.ensures)
-    c.lift-in-default-2.ensures
+    (lift_columns k (edges a) a.states _ 0 c.args.column.now _ (omega arith) c.requires.column (no_digits k (edges a) a.states c.args.column.now) c.lift-in_default.ensures)
+    c.lift-in_default-2.ensures
     ∙ ap (columns_along k (edges a) a.states c.args.column.now) digits

@@ -8,8 +8,8 @@ use Rattle.tile.proofs.Squares.{four_pos}
 use Rattle.tile.proofs.Tops.{follow_more}
 use Rattle.tile.proofs.automaton.Automaton.follow.Goals as goal
 
-pub nonzero-div-prefix : goal.nonzero-div-prefix
-nonzero-div-prefix g c = omega (arith, c.power.ensures, four_pos (c.loop-left.left - 1))
+pub nonzero_div-prefix : goal.nonzero_div-prefix
+nonzero_div-prefix g c = omega (arith, c.power.ensures, four_pos (c.loop-left.left - 1))
 
 pub loop-left-preserved : goal.loop-left-preserved
 loop-left-preserved g c =
@@ -17,7 +17,7 @@ loop-left-preserved g c =
     let k = g.W.Weight.kind in (
       omega arith,
       follow_more g.met.W.Weight.laws (body a) c.requires.ready.sound c.loop-left.row _ c.loop-left.left c.args.prefix _ (omega arith)
-          (c.copy-from-slice.ensures.after ∙ c.step-row.ensures ∙ ap (stepped k (edges a) a.states c.loop-left.row) (c.named.ensures ∙ ap (λ m. named (c.args.prefix / m % 4)) c.power.ensures))
+          (c.copy_from_slice.ensures.after ∙ c.step_row.ensures ∙ ap (stepped k (edges a) a.states c.loop-left.row) (c.named.ensures ∙ ap (λ m. named (c.args.prefix / m % 4)) c.power.ensures))
           c.loop-left.invariant.1,
     )
 

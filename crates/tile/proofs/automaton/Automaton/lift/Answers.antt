@@ -15,31 +15,31 @@ small g c = lift_small c.loop-c.c c.args.digits c.power-count.result c.args.self
 room : (g : _) (c : goal.After-slot-column g) → c.loop-c.c * c.args.self.now.states + c.args.self.now.states ≤ length c.args.longer.now
 room g c = lift_room c.loop-c.c c.args.digits c.power-count.result c.args.self.now.states _ c.power-count.ensures c.loop-c-test.true c.requires.longer
 
-pub overflow-mul-c-end : goal.overflow-mul-c-end
-overflow-mul-c-end g c = let h = four_le c.args.digits c.requires.few in omega (arith, c.power-count.ensures)
+pub overflow_mul-c-end : goal.overflow_mul-c-end
+overflow_mul-c-end g c = let h = four_le c.args.digits c.requires.few in omega (arith, c.power-count.ensures)
 
 pub slot-column-requires : goal.slot-column-requires
 slot-column-requires g c = lift_slot c.loop-c.c c.args.digits c.power-count.result c.args.self.now.states _ c.power-count.ensures c.requires.columns
 
-pub overflow-mul-next : goal.overflow-mul-next
-overflow-mul-next g c = omega (arith, small g c)
+pub overflow_mul-next : goal.overflow_mul-next
+overflow_mul-next g c = omega (arith, small g c)
 
-pub overflow-mul-next-in-loop-c : goal.overflow-mul-next-in-loop-c
-overflow-mul-next-in-loop-c g c = omega (arith, small g c)
+pub overflow_mul-next-in-loop-c : goal.overflow_mul-next-in-loop-c
+overflow_mul-next-in-loop-c g c = omega (arith, small g c)
 
-pub overflow-add-next : goal.overflow-add-next
-overflow-add-next g c = omega (arith, small g c)
+pub overflow_add-next : goal.overflow_add-next
+overflow_add-next g c = omega (arith, small g c)
 
-pub offset-bounds-longer-c : goal.offset-bounds-longer-c
-offset-bounds-longer-c g c =
+pub offset_bounds-longer-c : goal.offset_bounds-longer-c
+offset_bounds-longer-c g c =
     let h = room g c in
     scaled_fits≤ (c.loop-c.c * c.args.self.now.states) (length c.args.longer.now) _ (omega arith) (search rules)
 
-pub slice-bounds-next-end : goal.slice-bounds-next-end
-slice-bounds-next-end g c = let h = room g c in omega (arith, c.loop-c.invariant.0)
+pub slice_bounds-next-end : goal.slice_bounds-next-end
+slice_bounds-next-end g c = let h = room g c in omega (arith, c.loop-c.invariant.0)
 
-pub step-column-requires : goal.step-column-requires
-step-column-requires g c =
+pub step_column-requires : goal.step_column-requires
+step_column-requires g c =
     let n = c.args.self.now.states in
     record {
       ready = c.requires.ready;
@@ -53,10 +53,10 @@ loop-c-preserved g c =
     let a = c.args.self.now in
     let k = g.W.Weight.kind in
     let room = lift_room c.loop-c.c c.args.digits c.power-count.result a.states _ c.power-count.ensures c.loop-c-test.true (c.loop-c.invariant.0 ∙ c.requires.longer) in
-    let long = ap length c.step-column.ensures ∙ length-map-range_with_len _ 0 a.states in (
+    let long = ap length c.step_column.ensures ∙ length-map-range_with_len _ 0 a.states in (
       part_long c.loop-c.c a.states c.loop-c.longer _ room long ∙ c.loop-c.invariant.0,
       part_written _ c.loop-c.c a.states c.loop-c.longer _ room long c.loop-c.invariant.1
-          (c.step-column.ensures ∙ ap₂ (spreads k (edges a) a.states) c.slot-column.ensures c.named.ensures),
+          (c.step_column.ensures ∙ ap₂ (spreads k (edges a) a.states) c.slot-column.ensures c.named.ensures),
     )
 
 pub returns : goal.returns

@@ -3,8 +3,8 @@ use Rattle.std.specs.List.{AllByRecursion}
 use Rattle.picture.specs.Bodies.{Within}
 use Rattle.tile.proofs.automaton.Automaton.step_column.Goals as goal
 
-pub step-column-requires : goal.step-column-requires
-step-column-requires g c =
+pub step_column-requires : goal.step_column-requires
+step_column-requires g c =
     let ready = c.requires.ready in
     record {
       indexed = ready.out_of;

@@ -3,8 +3,8 @@ use Rattle.std.specs.List.{AllByRecursion}
 use Rattle.picture.specs.Bodies.{Within}
 use Rattle.tile.proofs.automaton.Automaton.step_row.Goals as goal
 
-pub step-row-requires : goal.step-row-requires
-step-row-requires g c =
+pub step_row-requires : goal.step_row-requires
+step_row-requires g c =
     let ready = c.requires.ready in
     record {
       indexed = ready.into;
