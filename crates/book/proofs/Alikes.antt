@@ -1,13 +1,11 @@
 -- Right sides that differ by uses of the laws mean the same.
-use Rattle.std.proofs.Common.{◌≡◌, ℕ, [], ◌∷◌, map, sym, refl, ◌∙◌}
-use mathlib.Core.Path.{fun_ext}
-use Rattle.weight.specs.Kinds.{Kind, Laws}
+use Rattle.std.proofs.Common.{◌≡◌, [], ◌∷◌, map, sym, refl, ◌∙◌}
+use Rattle.weight.specs.Kinds.{Kind}
 use Rattle.picture.specs.Operations.{four, turned, mirrored, pieced_picture}
 use Rattle.picture.specs.PictureLaws.{PictureLaws}
 use Rattle.picture.specs.Quadrants.{Address}
-use Rattle.picture.specs.declared.quadrant.Quadrant.{Quadrant}
 use Rattle.picture.specs.declared.quadrant.Quadrant.TheVariants.{UpperLeft, UpperRight, LowerLeft, LowerRight}
-use Rattle.picture.proofs.LawsOfPictures.{each_quadrant, picture_laws}
+use Rattle.picture.proofs.LawsOfPictures.{each_quadrant}
 use Rattle.recipe.specs.Expressions.{Expression, Zoomed, Pieced}
 use Rattle.book.specs.Meanings.{Book, meaning}
 use Rattle.book.specs.Uses.{Law, sums_swap, sums_regroup, products_regroup, products_swap, products_spread, four_turns, two_mirrors, turn_mirror_turn, turns_enter_sums, turns_enter_products, mirrors_enter_sums, mirrors_enter_products, zoomed_piecing, turned_piecing, mirrored_piecing, Alike, by_law, itself, back, onward, in_turn, in_mirror, in_zoom, in_sum, in_product, in_piecing, AlikeFromOne, alike, four_zooms, back_from_one, onward_from_one}

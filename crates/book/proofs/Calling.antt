@@ -1,5 +1,5 @@
 -- Every list of calls agrees with the book.
-use Rattle.std.proofs.Common.{◌≡◌, ℕ, ◌<◌, ◌≤◌, Bool, true, false, cond, ltb, List, [], ◌∷◌, ◌++◌, length, take, Some, None, Option, sym, refl, ap, ◌∙◌, subst, arith, MatchOption}
+use Rattle.std.proofs.Common.{◌≡◌, ℕ, Bool, true, false, cond, ltb, List, [], ◌∷◌, ◌++◌, take, Some, None, Option, sym, refl, ap, ◌∙◌, subst, arith, MatchOption}
 use mathlib.Core.Path.{fun_ext}
 use Rattle.weight.specs.Kinds.{Kind, Laws}
 use Rattle.weight.specs.Words.{Writing, WordLaws}
@@ -16,10 +16,10 @@ use Rattle.recipe.proofs.Walks.{unique}
 use Rattle.stack.specs.Drawing.{blank, drawing}
 use Rattle.stack.specs.declared.fault.StepFault.{StepFault}
 use Rattle.book.specs.declared.refusal.Refusal.{Refusal}
-use Rattle.book.specs.declared.refusal.Refusal.TheVariants.{ShortMemory, NoPlace, NotEntered, NotRun, NotWritten, NotPrinted}
+use Rattle.book.specs.declared.refusal.Refusal.TheVariants.{ShortMemory, NoPlace, NotEntered, NotRun}
 use Rattle.book.specs.declared.refusal.RunFault.TheVariants.{Unread}
 use Rattle.book.specs.Calls.{Call, Enter, Run, Clear, Write, Print, Nothing, Outcome, Places, answers, refused, run_answer, Enters, not_entered, entered, Runs, unread, performed, Writes, too_wide, too_short, written, Prints, no_tile, no_room, printed, with_memory, at_place, Rules}
-use Rattle.book.specs.Faith.{Event, leaving, fresh, first_book, Told, Agrees, Faithful, ByRules, ListsFaithful}
+use Rattle.book.specs.Faith.{Event, leaving, fresh, Told, Agrees, Faithful, ByRules, ListsFaithful}
 use Rattle.book.specs.Meanings.{Book, noted}
 use Rattle.book.specs.Refusals.{coded}
 use Rattle.book.specs.Statements.{AllLimited}

@@ -1,5 +1,5 @@
 -- The body of a right side has the picture that the right side means.
-use Rattle.std.proofs.Common.{◌≡◌, ℕ, ◌≤◌, Bool, true, false, cond, ltb, [], ◌∷◌, map, length, Some, None, Ok, Err, Option, Result, sym, refl, ◌∙◌, subst, ap₂}
+use Rattle.std.proofs.Common.{◌≡◌, ℕ, ◌≤◌, Bool, true, false, cond, ltb, [], ◌∷◌, map, length, Some, None, Ok, Err, Result, sym, refl, ◌∙◌, subst, ap₂}
 use Rattle.std.proofs.lemmas.List.{length-map}
 use Rattle.std.proofs.lemmas.Bool.{ltb-false}
 use Rattle.weight.specs.Kinds.{Kind, Laws}
@@ -16,8 +16,7 @@ use Rattle.picture.proofs.PiecedPictures.{pieced_sound, pieced_shows}
 use Rattle.picture.proofs.ProductPictures.{product_sound, product_shows}
 use Rattle.picture.proofs.SumPictures.{sum_sound, sum_shows}
 use Rattle.picture.proofs.ZoomPictures.{zoom_sound, zoom_shows}
-use Rattle.compose.specs.Faults.{excess, over_limit, product_fault}
-use Rattle.compose.specs.declared.limits.Fault.{Fault}
+use Rattle.compose.specs.Faults.{over_limit}
 use Rattle.compose.specs.declared.limits.Fault.TheVariants.{NoExchange, ManyStates, ManyArcs}
 use Rattle.words.specs.Format.{Limited}
 use Rattle.recipe.specs.Expressions.{Expression, Named, Turned, Mirrored, Zoomed, Sum, Product, Pieced}

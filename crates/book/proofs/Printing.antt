@@ -1,6 +1,6 @@
 -- Runs of two scripts that differ by uses of the laws print alike.
 use Rattle.std.proofs.Common.{◌≡◌, ℕ, zero, suc, ◌-◌, ◌^◌, ◌≤◌, Bool, true, false, cond, ltb, List, [], ◌∷◌, ◌++◌, map, length, Some, None, Ok, Err, Option, Result, sym, refl, ap, ◌∙◌, subst, ap₂, arith, MatchOption}
-use Rattle.std.specs.List.{range_with_len, flat_map, AllByRecursion}
+use Rattle.std.specs.List.{range_with_len, flat_map}
 use Rattle.std.proofs.lemmas.List.{length-append}
 use Rattle.weight.specs.Kinds.{Kind, Laws}
 use Rattle.weight.specs.Words.{Writing}
@@ -16,9 +16,9 @@ use Rattle.recipe.proofs.Walks.{unique}
 use Rattle.stack.specs.Drawing.{drawing}
 use Rattle.stack.specs.declared.fault.StepFault.{StepFault}
 use Rattle.book.specs.declared.refusal.Refusal.{Refusal}
-use Rattle.book.specs.declared.refusal.Refusal.TheVariants.{ShortMemory, NoPlace, NotPrinted}
-use Rattle.book.specs.Calls.{Run, Print, Output, Nothing, Cells, Outcome, Places, answers, refused, run_answer, ran, Runs, unread, performed, Prints, no_tile, no_room, printed, Rules}
-use Rattle.book.specs.Statements.{AllLimited, SameShown, AnswersLines, LawEqual}
+use Rattle.book.specs.declared.refusal.Refusal.TheVariants.{ShortMemory, NoPlace}
+use Rattle.book.specs.Calls.{Run, Output, Nothing, Cells, Outcome, Places, refused, run_answer, ran, Runs, unread, performed, Prints, no_tile, no_room, printed, Rules}
+use Rattle.book.specs.Statements.{SameShown, AnswersLines, LawEqual}
 use Rattle.book.specs.Uses.{Compared}
 use Rattle.book.proofs.Running.{lines_counted, law_equal}
 use Rattle.book.proofs.Singling.{not_both, past_memory}

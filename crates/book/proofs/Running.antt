@@ -1,5 +1,5 @@
 -- Scripts: what the lines done mean, and scripts that differ by uses of the laws.
-use Rattle.std.proofs.Common.{◌≡◌, ℕ, suc, ◌≤◌, Bool, true, false, cond, eqb, List, [], ◌∷◌, length, take, None, Ok, Err, Result, sym, refl, ap, ◌∙◌, subst, arith}
+use Rattle.std.proofs.Common.{◌≡◌, suc, Bool, true, false, cond, eqb, List, [], ◌∷◌, length, take, None, Ok, Err, Result, sym, refl, ap, ◌∙◌, arith}
 use mathlib.Core.Path.{fun_ext}
 use Rattle.std.proofs.lemmas.List.{take_all}
 use Rattle.std.proofs.lemmas.Bool.{eqb-true}
@@ -21,7 +21,7 @@ use Rattle.book.specs.Meanings.{Book, meaning, noted}
 use Rattle.book.specs.Statements.{AllLimited}
 use Rattle.book.specs.Uses.{Related, no_line, a_line, RelatedFromOne, the_last, before_it, Compared, always, from_one}
 use Rattle.book.proofs.Alikes.{alike_means, below_means}
-use Rattle.book.proofs.Evaluating.{pictures, Means, gives, stops as stopped, Draws, means}
+use Rattle.book.proofs.Evaluating.{pictures, Means, gives, stops as stopped, means}
 
 -- what holds of v and of each place holds after a put
 pub put_keeps : {V : Type 0} (P : V → Type 0) (p : Place) (v : V) (at : Place → V) → P v → ((q : Place) → P (at q)) → (q : Place) → P (put p v at q)

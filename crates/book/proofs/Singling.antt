@@ -1,10 +1,8 @@
 -- The rules name one outcome, and words come back.
-use Rattle.std.proofs.Common.{◌≡◌, ℕ, ◌<◌, ◌≤◌, Bool, true, false, cond, ltb, List, length, is_ok, Some, None, Ok, Err, Option, Result, sym, refl, ap, ◌∙◌, subst, arith, MatchOption}
+use Rattle.std.proofs.Common.{◌≡◌, ℕ, ◌≤◌, Bool, true, false, cond, ltb, List, length, is_ok, Some, None, Ok, Err, Option, Result, sym, refl, ap, ◌∙◌, subst, arith, MatchOption}
 use Rattle.weight.specs.Kinds.{Kind}
 use Rattle.weight.specs.Words.{Writing, WordLaws}
 use Rattle.picture.specs.Bodies.{Body}
-use Rattle.words.specs.Faults.{Refused}
-use Rattle.words.specs.Format.{words_of, SpellsBody}
 use Rattle.words.proofs.Unique.{one_body, no_body, one_fault}
 use Rattle.words.specs.declared.fault.Fault.{Fault}
 use Rattle.recipe.specs.declared.fault.Fault as recipe
@@ -22,8 +20,8 @@ use Rattle.stack.specs.Drawing.{blank, drawing}
 use Rattle.book.specs.declared.refusal.Refusal.{Refusal}
 use Rattle.book.specs.declared.refusal.Refusal.TheVariants.{ShortMemory, NoPlace, NotEntered, NotRun}
 use Rattle.book.specs.declared.refusal.RunFault.TheVariants.{Unread}
-use Rattle.book.specs.Calls.{Call, Enter, Run, Clear, Write, Print, Output, Nothing, Words, Outcome, Places, answers, refused, ran, Enters, not_entered, entered, Runs, unread, performed, Writes, too_wide, too_short, written, Prints, no_tile, no_room, printed, Rules}
-use Rattle.book.specs.Statements.{AllLimited, OneOutcome, EnteredBack, WrittenBack}
+use Rattle.book.specs.Calls.{Enter, Run, Clear, Write, Print, Nothing, Outcome, Places, answers, refused, ran, Enters, not_entered, entered, Runs, unread, performed, Writes, too_wide, too_short, written, Prints, no_tile, no_room, printed}
+use Rattle.book.specs.Statements.{OneOutcome}
 
 -- a refusal is no answer
 pub not_both : {T : Type 0} {n : ℕ} {r : Refusal} (a : Result ℕ Refusal) → a ≡ Ok n → a ≡ Err r → T

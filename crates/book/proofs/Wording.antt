@@ -1,5 +1,5 @@
 -- Words that were entered are written back, and words that are written enter as the same body.
-use Rattle.std.proofs.Common.{◌≡◌, ℕ, ◌<◌, ◌≤◌, Bool, true, false, cond, eqb, ltb, List, length, Some, None, Ok, Err, Option, sym, refl, ap, ◌∙◌, subst, arith, MatchOption}
+use Rattle.std.proofs.Common.{◌≡◌, ℕ, ◌<◌, ◌≤◌, cond, ltb, List, length, Some, None, Ok, Option, sym, refl, ap, ◌∙◌, subst, MatchOption}
 use Rattle.std.proofs.lemmas.Bool.{eq-eqb, le-ltb}
 use Rattle.weight.specs.Kinds.{Kind}
 use Rattle.weight.specs.Words.{Writing}
@@ -9,8 +9,8 @@ use Rattle.recipe.specs.declared.place.Place.{Place}
 use Rattle.recipe.specs.Evaluations.{put}
 use Rattle.recipe.specs.Places.{number, place}
 use Rattle.book.specs.declared.refusal.Refusal.TheVariants.{ShortMemory, NoPlace}
-use Rattle.book.specs.Calls.{Enter, Write, Output, Nothing, Words, Outcome, Places, answers, refused, Enters, not_entered, entered, Writes, too_wide, too_short, written, Rules}
-use Rattle.book.specs.Statements.{AllLimited, EnteredBack, WrittenBack}
+use Rattle.book.specs.Calls.{Output, Nothing, Words, Outcome, Places, answers, refused, Enters, not_entered, entered, Writes, too_wide, too_short, written}
+use Rattle.book.specs.Statements.{EnteredBack, WrittenBack}
 use Rattle.book.proofs.Singling.{not_both, past_memory}
 
 -- what was put at a place stands there
