@@ -8,11 +8,11 @@ mod compositions;
 #[cfg(test)]
 mod recipes;
 #[cfg(test)]
+mod round_trips;
+#[cfg(test)]
 mod tiles;
 #[cfg(test)]
 mod weights;
-#[cfg(test)]
-mod words;
 
 /// The worked examples hold.
 pub fn examples_hold()
