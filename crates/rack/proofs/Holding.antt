@@ -1,13 +1,12 @@
 -- The bodies that a table holds in its memory are within the limits.
-use Rattle.std.proofs.Common.{◌+◌, ◌-◌, ◌*◌, ◌≤◌, List, length, arith, length-take}
+use Rattle.std.proofs.Common.{◌+◌, ◌-◌, ◌≤◌, List, length, arith, length-take}
 use Rattle.std.specs.List.{between}
 use Rattle.std.proofs.lemmas.Slice.Zip.{length-zip}
-use Rattle.picture.specs.Stored.{Kept}
 use Rattle.picture.proofs.Storing.{stored_sound}
 use Rattle.recipe.specs.Places.{number}
 use Rattle.stack.specs.Waiting.{bay}
 use Rattle.book.specs.Statements.{AllLimited}
-use Rattle.table.specs.Limits.{FewStates, FewArcs, EndsAreStates, AllKept}
+use Rattle.table.specs.Limits.{AllKept}
 use Rattle.table.specs.Tables.{record_of, body_of}
 use Rattle.table.specs.declared.table.Table.{Table}
 use Rattle.rack.specs.declared.rack.Rack.{Rack}
@@ -31,7 +30,3 @@ bodies_limited t memory kept long p =
 -- the records of a rack are within the limits
 pub rack_kept : {W : Type 0} (r : Rack W) → AllKept r.table
 rack_kept r = record { few_states = r.few_states; few_arcs = r.few_arcs; ends = r.ends }
-
--- a table within the limits, as a rack asks for it
-pub as_rack : {t : Table} → AllKept t → FewStates t × (FewArcs t × (EndsAreStates t × Unit {0}))
-as_rack all = (all.few_states, (all.few_arcs, (all.ends, tt)))

@@ -1,8 +1,8 @@
 -- The outcome of a call, from what the layers below answer.
-use Rattle.std.proofs.Common.{◌≡◌, ℕ, ◌-◌, ◌^◌, ◌<◌, ◌≤◌, Bool, true, false, cond, eqb, ltb, List, ◌++◌, map, length, take, drop, Some, None, Ok, Err, Option, Result, sym, refl, ap, ◌∙◌, subst, arith, length-append, length-drop, MatchOption}
+use Rattle.std.proofs.Common.{◌≡◌, ℕ, ◌<◌, ◌≤◌, Bool, true, false, cond, eqb, ltb, List, ◌++◌, map, length, take, drop, Some, None, Ok, Err, Option, Result, sym, refl, ap, ◌∙◌, subst, arith, length-append, length-drop, MatchOption}
 use Rattle.std.proofs.lemmas.List.{take_at, drop_at}
 use Rattle.weight.specs.Kinds.{Kind}
-use Rattle.weight.specs.Words.{Writing, WordLaws}
+use Rattle.weight.specs.Words.{Writing}
 use Rattle.picture.specs.Bodies.{Body}
 use Rattle.picture.specs.declared.body.Record.{Record}
 use Rattle.recipe.proofs.Numbers.{one_place}

@@ -1,5 +1,5 @@
 -- The outcome of a run, from what the reader of scripts and the table answer.
-use Rattle.std.proofs.Common.{◌≡◌, ℕ, ◌+◌, ◌*◌, ◌≤◌, true, cond, ltb, List, [], ◌++◌, length, take, drop, Some, None, Ok, Err, Option, Result, sym, refl, ap, ◌∙◌, subst, arith}
+use Rattle.std.proofs.Common.{◌≡◌, ℕ, ◌+◌, ◌*◌, ◌≤◌, cond, List, [], ◌++◌, length, take, drop, Some, None, Ok, Err, Option, Result, sym, refl, ap, ◌∙◌, subst, arith}
 use mathlib.Core.Path.{fun_ext}
 use Rattle.std.specs.List.{between}
 use Rattle.std.proofs.lemmas.List.{length-take-le, take-append-drop, take-append-le}
@@ -11,7 +11,7 @@ use Rattle.picture.specs.Stored.{stored}
 use Rattle.recipe.specs.Evaluations.{carry, run_lines}
 use Rattle.recipe.specs.Expressions.{lines}
 use Rattle.recipe.specs.Outcomes.{Accepted}
-use Rattle.recipe.specs.Steps.{Carries, listed, steps}
+use Rattle.recipe.specs.Steps.{Carries, listed}
 use Rattle.recipe.specs.Trees.{script, Tree, text}
 use Rattle.recipe.specs.declared.step.Recipe.{Recipe}
 use Rattle.recipe.specs.declared.step.Step.{Step}

@@ -1,10 +1,10 @@
 -- A list of calls, one after the other.
 use Rattle.std.proofs.Common.{◌≡◌, ℕ, ◌+◌, ◌<◌, ◌≤◌, ◌⊎◌, List, [], ◌∷◌, ◌++◌, length, get_or, take, drop, Ok, Err, Result, sym, refl, ap, ◌∙◌, subst, ap₂, inl, inr, append_assoc, add-zero, arith}
-use Rattle.std.proofs.lemmas.List.{length-append, length-take-le, take-append-drop, take_at, drop_at, drop_all, drop_more}
+use Rattle.std.proofs.lemmas.List.{length-append, length-take-le, take_at, drop_at, drop_more}
 use Rattle.weight.specs.Kinds.{Kind, Laws}
 use Rattle.weight.specs.Words.{Writing, WordLaws}
-use Rattle.book.specs.Calls.{Places, Output, Nothing, Words, Cells, Rules}
-use Rattle.book.specs.Faith.{Event, leaving, fresh, ByRules}
+use Rattle.book.specs.Calls.{Places, Output, Words, Cells, Rules}
+use Rattle.book.specs.Faith.{Event, fresh, ByRules}
 use Rattle.book.specs.declared.refusal.Refusal.{Refusal}
 use Rattle.book.proofs.Calling.{lists_faithful}
 use Rattle.rack.specs.Racks.{came_to, amount, words_out, cells_out}

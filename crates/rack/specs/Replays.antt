@@ -1,5 +1,5 @@
 -- A list of calls with their answers and outputs, which lie one behind the other in two buffers.
-use Rattle.std.specs.Prelude.{◌≡◌, ℕ, ◌+◌, min, List, [], ◌∷◌, length, drop, Result}
+use Rattle.std.specs.Prelude.{ℕ, ◌+◌, min, List, [], ◌∷◌, length, drop, Result}
 use Rattle.weight.specs.Kinds.{Kind}
 use Rattle.weight.specs.Words.{Writing}
 use Rattle.book.specs.Calls as book

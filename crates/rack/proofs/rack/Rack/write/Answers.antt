@@ -15,9 +15,9 @@ use Rattle.rack.proofs.rack.Rack.write.Goals as goal
 pub write-requires : goal.write-requires
 write-requires g c =
     let rack = c.args.self.now in
-    let p = c.in-ok-place.place in
+    let p = c.in_ok-place.place in
     let memory = c.args.memory.now in
-    let long : 10240 ≤ length memory = c.in-ok-place.ensures.enough in
+    let long : 10240 ≤ length memory = c.in_ok-place.ensures.enough in
     let low = number_below p in
     let at : c.number.result ≡ number p = c.number.ensures in
     record {
@@ -25,19 +25,19 @@ write-requires g c =
       room = length_bay c.number.result memory (omega arith);
     }
 
-pub returns-in-err-count : goal.returns-in-err-count
-returns-in-err-count g c =
+pub returns-in_err-count : goal.returns-in_err-count
+returns-in_err-count g c =
     let t = c.args.self.now.table in
-    let p = c.in-ok-place.place in
+    let p = c.in_ok-place.place in
     let memory = c.args.memory.now in
-    let h = c.in-err-count.ensures.outcome in
-    let e = err_from_is_err_and c.from-residual-in-err-count.result c.from-residual-in-err-count.ensures.1 in
+    let h = c.in_err-count.ensures.outcome in
+    let e = err_from_is_err_and c.from_residual-in_err-count.result c.from_residual-in_err-count.ensures.1 in
     let b = stored c.record-body.result.now (bay c.number.result memory) in
     let body : b ≡ body_of t memory p = body_in_bay t memory p c.record-body.result.now c.number.result c.record-body.ensures c.number.ensures in
     let k = g.W.Weight.kind in
     let v = g.W.Written.writing in
     record {
-      outcome = rw (e.1, e.2) (is_not_written k v (body_of t memory) p (length memory) c.args.place b c.args.words.now c.write.new.out c.in-ok-place.ensures.found body c.in-err-count.field-0.0 h.0);
+      outcome = rw (e.1, e.2) (is_not_written k v (body_of t memory) p (length memory) c.args.place b c.args.words.now c.write.new.out c.in_ok-place.ensures.found body c.in_err-count.field-0.0 h.0);
       rest = rw e.1 h.1;
       back = λ i ok. never (sym e.1 ∙ ok);
     }
@@ -46,17 +46,17 @@ pub returns : goal.returns
 returns g c =
     let rack = c.args.self.now in
     let t = rack.table in
-    let p = c.in-ok-place.place in
+    let p = c.in_ok-place.place in
     let memory = c.args.memory.now in
-    let long : 10240 ≤ length memory = c.in-ok-place.ensures.enough in
-    let h = c.in-ok-count.ensures.outcome in
-    let count = c.in-ok-count.count in
+    let long : 10240 ≤ length memory = c.in_ok-place.ensures.enough in
+    let h = c.in_ok-count.ensures.outcome in
+    let count = c.in_ok-count.count in
     let out = c.args.words.now in
     let b = stored c.record-body.result.now (bay c.number.result memory) in
     let body : b ≡ body_of t memory p = body_in_bay t memory p c.record-body.result.now c.number.result c.record-body.ensures c.number.ensures in
     let k = g.W.Weight.kind in
     let v = g.W.Written.writing in
-    let outcome = is_written k v (body_of t memory) p (length memory) c.args.place b out c.write.new.out c.in-ok-place.ensures.found body count c.write.auto.out h in
+    let outcome = is_written k v (body_of t memory) p (length memory) c.args.place b out c.write.new.out c.in_ok-place.ensures.found body count c.write.auto.out h in
     let limited = bodies_limited t memory (rack_kept rack) (omega arith) in
     record {
       outcome = outcome;
