@@ -5,13 +5,15 @@ use Rattle.tile.proofs.Grids.{row_fits, column_fits}
 use Rattle.tile.proofs.Joins.{length_slot}
 use Rattle.tile.proofs.cells.line.Goals as goal
 
+pub slot-row-requires : goal.slot-row-requires
+slot-row-requires g c =
+    let fits = row_fits c.args.coarse c.args.fine c.loop-x.x c.args.states _ (omega (arith, c.loop-x-test.true)) c.requires.rows in
+    omega (arith, fits)
+
 row_long : (g : _) (c : goal.After-slot-column g) → length c.slot-row.result.now ≡ c.args.states
 row_long g c =
-    ap length c.slot-row.ensures
-    ∙ length_slot c.args.states _ c.args.rows.now (row_fits c.args.coarse c.args.fine c.loop-x.x c.args.states _ (omega (arith, c.loop-x-test.true)) c.requires.rows)
-
-pub slot-row-requires : goal.slot-row-requires
-slot-row-requires g c = row_fits c.args.coarse c.args.fine c.loop-x.x c.args.states _ (omega (arith, c.loop-x-test.true)) c.requires.rows
+    let fits = row_fits c.args.coarse c.args.fine c.loop-x.x c.args.states _ (omega (arith, c.loop-x-test.true)) c.requires.rows in
+    ap length c.slot-row.ensures ∙ length_slot c.args.states _ c.args.rows.now (omega (arith, fits))
 
 pub slot-column-requires : goal.slot-column-requires
 slot-column-requires g c = column_fits c.args.fine c.loop-x.x c.args.y _ c.args.states _ c.interleave.ensures c.requires.columns
@@ -27,9 +29,8 @@ loop-x-preserved g c =
     let k = g.W.Weight.kind in
     let row = c.slot-row.result.now in
     let column = c.slot-column.result.now in
-    let long : length row ≡ c.args.states =
-    ap length c.slot-row.ensures
-    ∙ length_slot c.args.states _ c.args.rows.now (row_fits c.args.coarse c.args.fine c.loop-x.x c.args.states _ (omega (arith, c.loop-x-test.true)) c.requires.rows) in
+    let fits = row_fits c.args.coarse c.args.fine c.loop-x.x c.args.states _ (omega (arith, c.loop-x-test.true)) c.requires.rows in
+    let long : length row ≡ c.args.states = ap length c.slot-row.ensures ∙ length_slot c.args.states _ c.args.rows.now (omega (arith, fits)) in
     below_more _ _
     (λ i h. let ne : i ≢ c.loop-x.x = omega arith in rw get_or-set_other (c.loop-x.invariant i h))
     (let lt : c.loop-x.x < length c.loop-x.cells = omega arith in
