@@ -6,7 +6,7 @@ use Rattle.picture.proofs.Storing.{stored_sound}
 use Rattle.recipe.specs.Places.{number}
 use Rattle.stack.specs.Waiting.{bay}
 use Rattle.book.specs.Statements.{AllLimited}
-use Rattle.table.specs.Limits.{AllKept}
+use Rattle.table.specs.Limits.{FewStates, FewArcs, EndsAreStates, AllKept}
 use Rattle.table.specs.Tables.{record_of, body_of}
 use Rattle.table.specs.declared.table.Table.{Table}
 use Rattle.rack.specs.declared.rack.Rack.{Rack}
@@ -30,3 +30,7 @@ bodies_limited t memory kept long p =
 -- the records of a rack are within the limits
 pub rack_kept : {W : Type 0} (r : Rack W) → AllKept r.table
 rack_kept r = record { few_states = r.few_states; few_arcs = r.few_arcs; ends = r.ends }
+
+-- a table within the limits, as a rack's invariant asks for it
+pub as_rack : {t : Table} → AllKept t → record { few_states : FewStates t; few_arcs : FewArcs t; ends : EndsAreStates t }
+as_rack all = record { few_states = all.few_states; few_arcs = all.few_arcs; ends = all.ends }

@@ -27,10 +27,10 @@ fn find(weights: usize, place: usize) -> Result<Place, Refusal>
     if weights < MEMORY {
         return Err(Refusal::ShortMemory);
     }
-    if place > 7 {
+    let Ok(number) = u8::try_from(place) else {
         return Err(Refusal::NoPlace);
-    }
-    match Place::from_number(place as u8) {
+    };
+    match Place::from_number(number) {
         Some(found) => Ok(found),
         None => Err(Refusal::NoPlace),
     }

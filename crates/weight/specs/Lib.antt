@@ -15,4 +15,4 @@ pub mod Rounded
 pub mod Rounds
 pub mod Same
 pub mod OneWord
-pub mod HeightWeightLemmas
+pub mod HeightNumbers

@@ -4,7 +4,7 @@ ghost use Rattle.weight.specs.Height.{height_number, height, height_kind, height
 ghost use Rattle.weight.specs.Rounded.{rounded_laws, min_and_plus};
 ghost use Rattle.weight.specs.Rounds.{cap_add_cap, cap_min_cap};
 ghost use Rattle.weight.specs.Same.{same_height};
-ghost use Rattle.weight.specs.HeightWeightLemmas.{number_of};
+ghost use Rattle.weight.specs.HeightNumbers.{number_of};
 ghost use Rattle.weight.specs.OneWord.{one_word_laws};
 
 use super::Height;

@@ -3,15 +3,14 @@ use Rattle.recipe.specs.Places.{number}
 use Rattle.table.specs.Tables.{body_of}
 use Rattle.table.proofs.Bodies.{bodies_kept}
 use Rattle.table.proofs.Keeping.{put_kept}
-use Rattle.rack.proofs.Holding.{rack_kept}
+use Rattle.rack.proofs.Holding.{rack_kept, as_rack}
 use Rattle.rack.proofs.Outcomes.{cleared, others_stay}
 use Rattle.rack.proofs.rack.Rack.clear.Goals as goal
 
 pub invariant_of-self : goal.invariant_of-self
 invariant_of-self g c =
     let rack = c.args.self.now in
-    let all = put_kept rack.table c.put.new.self (number c.in_ok-place.place) _ c.put.ensures.records (rack_kept rack) (record { few_states = omega arith; few_arcs = omega arith; ends = tt }) refl in
-    record { few_states = all.few_states; few_arcs = all.few_arcs; ends = all.ends }
+    as_rack (put_kept rack.table c.put.new.self (number c.in_ok-place.place) _ c.put.ensures.records (rack_kept rack) (record { few_states = omega arith; few_arcs = omega arith; ends = tt }) refl)
 
 pub returns : goal.returns
 returns g c =

@@ -8,7 +8,7 @@ use Rattle.recipe.proofs.Numbers.{number_below}
 use Rattle.table.specs.Tables.{body_of}
 use Rattle.table.proofs.Bodies.{bodies_put, part_again}
 use Rattle.table.proofs.Keeping.{put_kept}
-use Rattle.rack.proofs.Holding.{rack_kept}
+use Rattle.rack.proofs.Holding.{rack_kept, as_rack}
 use Rattle.rack.proofs.Outcomes.{is_entered, is_not_entered, back_again, others_stay}
 use Rattle.rack.proofs.rack.Rack.enter.Goals as goal
 
@@ -16,8 +16,7 @@ pub invariant_of-self : goal.invariant_of-self
 invariant_of-self g c =
     let rack = c.args.self.now in
     let full : length c.in_ok-body.body.arcs ≡ 512 = search rules in
-    let all = put_kept rack.table c.put.new.self (number c.in_ok-place.place) _ c.put.ensures.records (rack_kept rack) c.in_ok-body.ensures.outcome.0 full in
-    record { few_states = all.few_states; few_arcs = all.few_arcs; ends = all.ends }
+    as_rack (put_kept rack.table c.put.new.self (number c.in_ok-place.place) _ c.put.ensures.records (rack_kept rack) c.in_ok-body.ensures.outcome.0 full)
 
 pub returns-in_err-body : goal.returns-in_err-body
 returns-in_err-body g c =

@@ -1,3 +1,4 @@
+-- A height made of a number has that number, or the largest where it is greater.
 use Rattle.std.specs.Prelude.{◌≡◌, ℕ, min}
 use Rattle.std.proofs.Common.{arith}
 use Rattle.weight.specs.Height.{height_number, height}
