@@ -1,23 +1,8 @@
 -- What the laws of a kind give of finite sums.
-use Rattle.std.proofs.Common.{◌≡◌, ℕ, ◌+◌, ◌<◌, List, [], ◌∷◌, ◌++◌, map, length, get_or, drop, sym, refl, ap, ◌∙◌, ap₂}
-use Rattle.std.proofs.lemmas.List.{drop_more}
+use Rattle.std.proofs.Common.{◌≡◌, List, [], ◌∷◌, ◌++◌, map, sym, refl, ap, ◌∙◌, ap₂}
 use Rattle.std.specs.List.{flat_map, AllByRecursion}
 use Rattle.weight.specs.Kinds.{Kind, Laws}
-use Rattle.weight.specs.Sums.{total, product, SumLaws}
-
--- the item that a loop has come to, and the rest
-pub drop_item : {A : Type 0} (xs : List A) (i : ℕ) (x : A) → i < length xs → x ≡ get_or xs i x → drop i xs ≡ x ∷ drop (i + 1) xs
-drop_item xs i x h read = drop_more xs i x h ∙ ap (λ y. y ∷ drop (i + 1) xs) (sym read)
-
--- A loop that combines the items of a list: what it has so far, combined with the rest, is the whole.
-module _ {W A : Type 0} (op : W → W → W) (F : List A → W) where
-  combine_more : (f : A → W) → ((x y z : W) → op (op x y) z ≡ op x (op y z)) → ((x : A) (xs : List A) → F (x ∷ xs) ≡ op (f x) (F xs))
-      → (xs ys : List A) (x : A) (t u r : W) → xs ≡ x ∷ ys → u ≡ op t (f x) → op t (F xs) ≡ r → op u (F ys) ≡ r
-  combine_more f assoc cons xs ys x t u r h e q =
-      ap (λ v. op v (F ys)) e ∙ assoc t (f x) (F ys) ∙ ap (op t) (sym (cons x ys)) ∙ ap (λ zs. op t (F zs)) (sym h) ∙ q
-
-  combine_end : ((x : W) → op x (F []) ≡ x) → (xs : List A) (t r : W) → xs ≡ [] → op t (F xs) ≡ r → t ≡ r
-  combine_end unit xs t r h q = sym (unit t) ∙ ap (λ zs. op t (F zs)) (sym h) ∙ q
+use Rattle.weight.specs.Sums.{total, SumLaws}
 
 module _ {W : Type 0} {k : Kind W} (laws : Laws k) where
   pub zero_plus : (x : W) → k.plus k.zero x ≡ x
@@ -70,18 +55,13 @@ module _ {W : Type 0} {k : Kind W} (laws : Laws k) where
   pub sums_stand : (A B : Type 0) → SumLaws k A B
   sums_stand A B = record { exchange = total_swap; times_total = times_total; total_times = total_times }
 
-  pub product_more : (xs ys : List W) (x t u r : W) → xs ≡ x ∷ ys → u ≡ k.times t x → k.times t (product k xs) ≡ r → k.times u (product k ys) ≡ r
-  product_more = combine_more k.times (product k) (λ x. x) laws.times_assoc (λ x xs. refl)
-
-  pub product_end : (xs : List W) (t r : W) → xs ≡ [] → k.times t (product k xs) ≡ r → t ≡ r
-  product_end = combine_end k.times (product k) laws.times_one
-
   module _ {A : Type 0} (f : A → W) where
     pub total_start : (xs ys : List A) (t : W) → t ≡ k.zero → xs ≡ ys → k.plus t (total k xs f) ≡ total k ys f
     total_start xs ys t e h = ap₂ k.plus e (ap (λ zs. total k zs f) h) ∙ zero_plus _
 
     pub total_more : (xs ys : List A) (x : A) (t u r : W) → xs ≡ x ∷ ys → u ≡ k.plus t (f x) → k.plus t (total k xs f) ≡ r → k.plus u (total k ys f) ≡ r
-    total_more = combine_more k.plus (λ zs. total k zs f) f laws.plus_assoc (λ x xs. refl)
+    total_more xs ys x t u r h e q =
+        ap (λ v. k.plus v (total k ys f)) e ∙ laws.plus_assoc t (f x) (total k ys f) ∙ ap (λ zs. k.plus t (total k zs f)) (sym h) ∙ q
 
     pub total_end : (xs : List A) (t r : W) → xs ≡ [] → k.plus t (total k xs f) ≡ r → t ≡ r
-    total_end = combine_end k.plus (λ zs. total k zs f) laws.plus_zero
+    total_end xs t r h q = sym (laws.plus_zero t) ∙ ap (λ zs. k.plus t (total k zs f)) (sym h) ∙ q

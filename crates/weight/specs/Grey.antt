@@ -2,7 +2,6 @@
 use Rattle.std.specs.Prelude.{ℕ, ◌+◌, ◌*◌, ◌%◌, true}
 use Rattle.std.proofs.Common.{arith}
 use Rattle.weight.specs.Kinds.{Kind}
-use Rattle.weight.specs.Words.{Writing, single_word}
 use Rattle.weight.specs.declared.grey.Grey.{Grey}
 
 -- the grey that a number comes to
@@ -17,6 +16,3 @@ grey_kind = record {
   times = λ a b. grey (a.level * b.level);
   exchanges = true;
 }
-
-abbrev pub grey_writing : Writing Grey
-grey_writing = single_word 2 (λ a. a.level)

@@ -2,7 +2,6 @@
 use Rattle.std.specs.Prelude.{ℕ, ◌+◌, ◌*◌, ◌/◌, ◌%◌, min, true}
 use Rattle.std.proofs.Common.{arith}
 use Rattle.weight.specs.Kinds.{Kind}
-use Rattle.weight.specs.Words.{Writing, single_word}
 use Rattle.weight.specs.declared.height.Height.{Height}
 
 abbrev pub height_number : Height → ℕ
@@ -26,6 +25,3 @@ height_kind = record {
   times = λ a b. height (height_number a + height_number b);
   exchanges = true;
 }
-
-abbrev pub height_writing : Writing Height
-height_writing = single_word 3 height_number

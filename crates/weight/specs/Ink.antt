@@ -2,7 +2,6 @@
 use Rattle.std.specs.Prelude.{ℕ, ◌+◌, ◌*◌, min, true}
 use Rattle.std.proofs.Common.{arith}
 use Rattle.weight.specs.Kinds.{Kind}
-use Rattle.weight.specs.Words.{Writing, single_word}
 use Rattle.weight.specs.declared.ink.Ink.{Ink}
 
 -- the ink that a number comes to
@@ -17,6 +16,3 @@ ink_kind = record {
   times = λ a b. ink (a.amount * b.amount);
   exchanges = true;
 }
-
-abbrev pub ink_writing : Writing Ink
-ink_writing = single_word 4 (λ a. a.amount)

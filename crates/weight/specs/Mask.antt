@@ -1,7 +1,6 @@
 -- Masks: 0 and 1 under or and and.
 use Rattle.std.specs.Prelude.{ℕ, Bool, true, false, cond, ◌&&◌, ◌||◌}
 use Rattle.weight.specs.Kinds.{Kind}
-use Rattle.weight.specs.Words.{Writing, single_word}
 use Rattle.weight.specs.declared.mask.Mask.{Mask}
 
 abbrev pub mask : Bool → Mask
@@ -18,6 +17,3 @@ mask_kind = record {
 
 abbrev pub mask_number : Mask → ℕ
 mask_number a = cond a.set 1 0
-
-abbrev pub mask_writing : Writing Mask
-mask_writing = single_word 1 mask_number

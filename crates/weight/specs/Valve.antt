@@ -1,7 +1,6 @@
 -- Valves: Boolean matrices of two rows and two columns.
 use Rattle.std.specs.Prelude.{◌≡◌, ℕ, ◌+◌, ◌*◌, ◌/◌, ◌%◌, ◌<◌, Bool, true, false, cond, ◌&&◌, ◌||◌, List, length, ◌==◌, slice_index}
 use Rattle.weight.specs.Kinds.{Kind}
-use Rattle.weight.specs.Words.{Writing, single_word}
 use Rattle.weight.specs.declared.valve.Valve.{Valve}
 
 -- the valve with the lowest four bits of a number
@@ -31,9 +30,6 @@ valve_kind = record {
   times = λ a b. valve_where (λ i j. (reaches a i false && reaches b false j) || (reaches a i true && reaches b true j));
   exchanges = false;
 }
-
-abbrev pub valve_writing : Writing Valve
-valve_writing = single_word 5 valve_number
 
 -- a table that has the product of a and b at 16a + b
 pub record Products (table : List ℕ) : Type 0 where

@@ -1,5 +1,5 @@
 -- Weights as words of 32 bits.
-use Rattle.std.specs.Prelude.{◌≡◌, ℕ, ◌+◌, ◌/◌, ◌%◌, ◌^◌, ◌<◌, ◌≤◌, List, [], ◌∷◌, length, Option, MatchOption}
+use Rattle.std.specs.Prelude.{◌≡◌, ◌≢◌, ℕ, ◌+◌, ◌/◌, ◌%◌, ◌^◌, ◌<◌, ◌≤◌, List, [], ◌∷◌, length, Option, MatchOption}
 use Rattle.std.specs.List.{AllByRecursion}
 
 -- how a kind is written: its code, how many words a value has, and the words of a value
@@ -37,3 +37,14 @@ Spells s v given = (s.width < 9) × (s.words v ≡ given)
 -- reading gives the value that has the words, and nothing exactly if no value has them
 abbrev pub ReadFrom : {W : Type 0} → Writing W → List ℕ → Option W → Type 0
 ReadFrom {W} s given r = MatchOption r ((v : W) → Spells s v given → ⊥) (λ v. Spells s v given)
+
+-- what a kind owes whose values have one word each
+pub record PayloadLaws {W : Type 0} (code : ℕ) (payload : W → ℕ) : Type 0 where
+  pub code_from : 1 ≤ code
+  pub code_to : code ≤ 15
+  pub fits : (v : W) → payload v < 2 ^ 24
+  pub same : (v w : W) → payload v ≡ payload w → v ≡ w
+
+-- the value with a payload, and nothing exactly if no value has it
+abbrev pub WithPayload : {W : Type 0} → (W → ℕ) → ℕ → Option W → Type 0
+WithPayload {W} payload n r = MatchOption r ((v : W) → payload v ≢ n) (λ v. payload v ≡ n)

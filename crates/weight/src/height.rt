@@ -3,7 +3,7 @@ ghost use Rattle.std.specs.Prelude.{◌<◌};
 mod kind;
 
 /// A number that stops at 16,777,215, in three bytes, so that there is no larger one.
-#[derive(Clone, Copy)]
+#[derive(Clone, Copy, Debug, PartialEq, Eq)]
 pub struct Height {
     high: u8,
     middle: u8,

@@ -1,18 +1,20 @@
-ghost use Rattle.std.specs.Prelude.{◌≡◌};
-ghost use Rattle.weight.specs.Mask.{mask_kind, mask_number, mask_writing};
+ghost use Rattle.std.specs.Prelude.{◌≡◌, Some, decimal};
+ghost use Rattle.std.specs.Fmt.{styled_decimal};
+ghost use Rattle.weight.specs.Mask.{mask_kind, mask_number};
 ghost use Rattle.std.proofs.Common.{rules};
 
 use crate::kind::Weight;
-use crate::word;
-use crate::written::Written;
+use crate::one_word::OneWord;
+use std::fmt::{self, Display};
 
 /// Set or not.
-#[derive(Clone, Copy)]
+#[derive(Clone, Copy, Debug, PartialEq, Eq)]
 pub struct Mask {
     pub set: bool,
 }
 
 impl Mask {
+    // A method and no conversion: what the number says hangs on the kind.
     pub fn number(self) -> u32
         ensures { result ≡ mask_number self }
     {
@@ -50,28 +52,34 @@ impl Weight for Mask {
     }
 }
 
-impl Written for Mask {
-    ghost writing = { mask_writing };
+impl OneWord for Mask {
+    ghost CODE = { 1 };
 
-    ghost words = { Prim.search rules };
+    ghost payload = { mask_number };
 
-    fn code() -> u32 {
-        1
+    ghost payloads = { Prim.search rules };
+
+    const CODE: u32 = 1;
+
+    fn payload(self) -> u32 {
+        self.number()
     }
 
-    fn width() -> usize {
-        1
-    }
-
-    fn word(self, i: usize) -> u32 {
-        word::single(self.number(), i)
-    }
-
-    fn read(given: &[u32]) -> Option<Mask> {
-        match word::payload(given)? {
+    fn from_payload(number: u32) -> Option<Mask> {
+        match number {
             0 => Some(Mask { set: false }),
             1 => Some(Mask { set: true }),
             _ => None,
         }
+    }
+}
+
+impl Display for Mask {
+    ghost output = { λ v. Some (decimal (mask_number v)) };
+
+    ghost styled_output = { λ v s. Some (styled_decimal s (mask_number v)) };
+
+    fn fmt<W: fmt::Write>(&self, f: &mut fmt::Formatter<W>) -> fmt::Result {
+        self.number().fmt(f)
     }
 }

@@ -1,12 +1,15 @@
+ghost use Rattle.std.specs.Prelude.{Some, codes};
+ghost use Rattle.std.specs.Fmt.{◌++?◌};
 ghost use Rattle.weight.specs.Pair.{pair_kind, pair_writing};
 ghost use Rattle.weight.specs.Parts.{pair_laws};
 ghost use Rattle.weight.specs.SideBySide.{pair_words};
 
 use crate::kind::Weight;
 use crate::written::{TOO_WIDE, Written};
+use std::fmt::{self, Display};
 
 /// Two weights side by side.
-#[derive(Clone, Copy)]
+#[derive(Clone, Copy, Debug, PartialEq, Eq)]
 pub struct Pair<A, B> {
     pub first: A,
     pub second: B,
@@ -79,12 +82,17 @@ impl<A: Written, B: Written> Written for Pair<A, B> {
         if middle + B::width() >= TOO_WIDE {
             return None;
         }
-        if given.len() < middle {
-            return None;
-        }
-        let (front, back) = given.split_at(middle);
+        let (front, back) = given.split_at_checked(middle)?;
         let first = A::read(front)?;
         let second = B::read(back)?;
         Some(Pair { first, second })
+    }
+}
+
+impl<A: Display, B: Display> Display for Pair<A, B> {
+    ghost output = { λ v. A.output v.first ++? Some (codes "/") ++? B.output v.second };
+
+    fn fmt<W: fmt::Write>(&self, f: &mut fmt::Formatter<W>) -> fmt::Result {
+        write!(f, "{}/{}", self.first, self.second)
     }
 }

@@ -4,6 +4,7 @@ ghost use Rattle.weight.specs.Sums as sums;
 
 use crate::kind::Weight;
 
+// Two loops: one fold for both would be handed its operation, and promise in more words what these two do.
 /// The sum of a row of weights.
 pub fn total<W: Weight>(weights: &[W]) -> W
     ensures { result ≡ sums.total W.kind weights.now (λ w. w) }

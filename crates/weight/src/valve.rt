@@ -1,11 +1,12 @@
-ghost use Rattle.std.specs.Prelude.{◌≡◌};
-ghost use Rattle.weight.specs.Valve.{valve, valve_number, valve_kind, valve_writing, Products};
+ghost use Rattle.std.specs.Prelude.{◌≡◌, Some, decimal};
+ghost use Rattle.std.specs.Fmt.{styled_decimal};
+ghost use Rattle.weight.specs.Valve.{valve, valve_number, valve_kind, Products};
 ghost use Rattle.weight.specs.Routes.{valve_laws};
 ghost use Rattle.std.proofs.Common.{rules};
 
 use crate::kind::Weight;
-use crate::word;
-use crate::written::Written;
+use crate::one_word::OneWord;
+use std::fmt::{self, Display};
 
 mod products;
 
@@ -15,7 +16,7 @@ use products::PRODUCTS;
 const COUNT: u32 = 16;
 
 /// A Boolean matrix of two rows and two columns: bit 2i + j says that input i reaches output j.
-#[derive(Clone, Copy)]
+#[derive(Clone, Copy, Debug, PartialEq, Eq)]
 pub struct Valve {
     pub bit0: bool,
     pub bit1: bool,
@@ -36,6 +37,7 @@ impl Valve {
         }
     }
 
+    // A method and no conversion: what the number says hangs on the kind.
     pub fn number(self) -> u32
         ensures { result ≡ valve_number self }
     {
@@ -86,29 +88,30 @@ impl Weight for Valve {
     }
 }
 
-impl Written for Valve {
-    ghost writing = { valve_writing };
+impl OneWord for Valve {
+    ghost CODE = { 5 };
 
-    ghost words = { Prim.search rules };
+    ghost payload = { valve_number };
 
-    fn code() -> u32 {
-        5
+    ghost payloads = { Prim.search rules };
+
+    const CODE: u32 = 5;
+
+    fn payload(self) -> u32 {
+        self.number()
     }
 
-    fn width() -> usize {
-        1
+    fn from_payload(number: u32) -> Option<Valve> {
+        (number < COUNT).then(|| Valve::new(number))
     }
+}
 
-    fn word(self, i: usize) -> u32 {
-        word::single(self.number(), i)
-    }
+impl Display for Valve {
+    ghost output = { λ v. Some (decimal (valve_number v)) };
 
-    fn read(given: &[u32]) -> Option<Valve> {
-        let payload = word::payload(given)?;
-        if payload < COUNT {
-            Some(Valve::new(payload))
-        } else {
-            None
-        }
+    ghost styled_output = { λ v s. Some (styled_decimal s (valve_number v)) };
+
+    fn fmt<W: fmt::Write>(&self, f: &mut fmt::Formatter<W>) -> fmt::Result {
+        self.number().fmt(f)
     }
 }

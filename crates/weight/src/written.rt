@@ -3,6 +3,7 @@ ghost use Rattle.weight.specs.Words.{Writing, WordLaws, ReadFrom};
 
 use crate::kind::Weight;
 
+// A number and no `Option`, since the rules give the width as a number, and 9 where it is too wide.
 /// The width of a kind whose values are too wide to be written.
 pub const TOO_WIDE: usize = 9;
 

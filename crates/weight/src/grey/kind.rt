@@ -1,16 +1,16 @@
-ghost use Rattle.std.specs.Prelude.{◌≡◌};
-ghost use Rattle.std.proofs.Common.{ap, arith};
-ghost use Rattle.weight.specs.Grey.{grey, grey_kind, grey_writing};
+ghost use Rattle.std.specs.Prelude.{◌≡◌, Some, decimal};
+ghost use Rattle.std.specs.Fmt.{styled_decimal};
+ghost use Rattle.std.proofs.Common.{ap, arith, rules};
+ghost use Rattle.weight.specs.Grey.{grey, grey_kind};
 ghost use Rattle.std.proofs.Math.Nat.{mod-add-mod};
 ghost use Rattle.weight.specs.Rounded.{rounded_laws, plus_and_times};
 ghost use Rattle.weight.specs.Rounds.{mod-mul-mod};
 ghost use Rattle.weight.specs.Same.{same_grey};
-ghost use Rattle.weight.specs.OneWord.{one_word_laws};
 
 use super::Grey;
 use crate::kind::Weight;
-use crate::word;
-use crate::written::Written;
+use crate::one_word::OneWord;
+use std::fmt::{self, Display};
 
 /// How many greys there are.
 const COUNT: u32 = 65_536;
@@ -25,6 +25,7 @@ impl Grey {
         }
     }
 
+    // A method and no conversion: what the number says hangs on the kind.
     pub fn number(self) -> u32
         ensures { result ≡ self.level }
     {
@@ -32,6 +33,7 @@ impl Grey {
     }
 }
 
+// Grey and ink have an impl each: a trait of both would ask for `new` and `number` again, and is as long.
 impl Weight for Grey {
     ghost kind = { grey_kind };
 
@@ -65,29 +67,30 @@ impl Weight for Grey {
     }
 }
 
-impl Written for Grey {
-    ghost writing = { grey_writing };
+impl OneWord for Grey {
+    ghost CODE = { 2 };
 
-    ghost words = { one_word_laws 2 (omega arith) (omega arith) (λ v. v.level) (λ v. omega arith) (λ v w. same_grey) };
+    ghost payload = { λ v. v.level };
 
-    fn code() -> u32 {
-        2
+    ghost payloads = { Prim.search (rules, same_grey) };
+
+    const CODE: u32 = 2;
+
+    fn payload(self) -> u32 {
+        self.number()
     }
 
-    fn width() -> usize {
-        1
+    fn from_payload(number: u32) -> Option<Grey> {
+        (number < COUNT).then(|| Grey::new(number))
     }
+}
 
-    fn word(self, i: usize) -> u32 {
-        word::single(self.number(), i)
-    }
+impl Display for Grey {
+    ghost output = { λ v. Some (decimal v.level) };
 
-    fn read(given: &[u32]) -> Option<Grey> {
-        let payload = word::payload(given)?;
-        if payload < COUNT {
-            Some(Grey::new(payload))
-        } else {
-            None
-        }
+    ghost styled_output = { λ v s. Some (styled_decimal s v.level) };
+
+    fn fmt<W: fmt::Write>(&self, f: &mut fmt::Formatter<W>) -> fmt::Result {
+        self.number().fmt(f)
     }
 }

@@ -1,16 +1,16 @@
-ghost use Rattle.std.specs.Prelude.{◌≡◌};
-ghost use Rattle.std.proofs.Common.{ap, arith};
-ghost use Rattle.weight.specs.Height.{height_number, height, height_kind, height_writing};
+ghost use Rattle.std.specs.Prelude.{◌≡◌, Some, decimal};
+ghost use Rattle.std.specs.Fmt.{styled_decimal};
+ghost use Rattle.std.proofs.Common.{ap, arith, rules};
+ghost use Rattle.weight.specs.Height.{height_number, height, height_kind};
 ghost use Rattle.weight.specs.Rounded.{rounded_laws, min_and_plus};
 ghost use Rattle.weight.specs.Rounds.{cap_add_cap, cap_min_cap};
 ghost use Rattle.weight.specs.Same.{same_height};
 ghost use Rattle.weight.specs.HeightNumbers.{number_of};
-ghost use Rattle.weight.specs.OneWord.{one_word_laws};
 
 use super::Height;
 use crate::kind::Weight;
-use crate::word;
-use crate::written::Written;
+use crate::one_word::OneWord;
+use std::fmt::{self, Display};
 
 /// The largest height, which stands for none at all.
 const NONE: u32 = 16_777_215;
@@ -24,6 +24,7 @@ impl Height {
         Height { high, middle, low }
     }
 
+    // A method and no conversion: what the number says hangs on the kind.
     pub fn number(self) -> u32
         ensures { result ≡ height_number self }
     {
@@ -64,25 +65,30 @@ impl Weight for Height {
     }
 }
 
-impl Written for Height {
-    ghost writing = { height_writing };
+impl OneWord for Height {
+    ghost CODE = { 3 };
 
-    ghost words = { one_word_laws 3 (omega arith) (omega arith) height_number (λ v. omega arith) (λ v w. same_height) };
+    ghost payload = { height_number };
 
-    fn code() -> u32 {
-        3
+    ghost payloads = { Prim.search (rules, same_height) };
+
+    const CODE: u32 = 3;
+
+    fn payload(self) -> u32 {
+        self.number()
     }
 
-    fn width() -> usize {
-        1
+    fn from_payload(number: u32) -> Option<Height> {
+        (number <= NONE).then(|| Height::new(number))
     }
+}
 
-    fn word(self, i: usize) -> u32 {
-        word::single(self.number(), i)
-    }
+impl Display for Height {
+    ghost output = { λ v. Some (decimal (height_number v)) };
 
-    fn read(given: &[u32]) -> Option<Height> {
-        let payload = word::payload(given)?;
-        Some(Height::new(payload))
+    ghost styled_output = { λ v s. Some (styled_decimal s (height_number v)) };
+
+    fn fmt<W: fmt::Write>(&self, f: &mut fmt::Formatter<W>) -> fmt::Result {
+        self.number().fmt(f)
     }
 }

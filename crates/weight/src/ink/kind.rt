@@ -1,15 +1,15 @@
-ghost use Rattle.std.specs.Prelude.{◌≡◌};
-ghost use Rattle.std.proofs.Common.{ap, arith};
-ghost use Rattle.weight.specs.Ink.{ink, ink_kind, ink_writing};
+ghost use Rattle.std.specs.Prelude.{◌≡◌, Some, decimal};
+ghost use Rattle.std.specs.Fmt.{styled_decimal};
+ghost use Rattle.std.proofs.Common.{ap, arith, rules};
+ghost use Rattle.weight.specs.Ink.{ink, ink_kind};
 ghost use Rattle.weight.specs.Rounded.{rounded_laws, plus_and_times};
 ghost use Rattle.weight.specs.Rounds.{cap_add_cap, cap_mul_cap};
 ghost use Rattle.weight.specs.Same.{same_ink};
-ghost use Rattle.weight.specs.OneWord.{one_word_laws};
 
 use super::Ink;
 use crate::kind::Weight;
-use crate::word;
-use crate::written::Written;
+use crate::one_word::OneWord;
+use std::fmt::{self, Display};
 
 /// The largest amount.
 const MOST: u32 = 255;
@@ -24,6 +24,7 @@ impl Ink {
         }
     }
 
+    // A method and no conversion: what the number says hangs on the kind.
     pub fn number(self) -> u32
         ensures { result ≡ self.amount }
     {
@@ -31,6 +32,7 @@ impl Ink {
     }
 }
 
+// Grey and ink have an impl each: a trait of both would ask for `new` and `number` again, and is as long.
 impl Weight for Ink {
     ghost kind = { ink_kind };
 
@@ -64,29 +66,30 @@ impl Weight for Ink {
     }
 }
 
-impl Written for Ink {
-    ghost writing = { ink_writing };
+impl OneWord for Ink {
+    ghost CODE = { 4 };
 
-    ghost words = { one_word_laws 4 (omega arith) (omega arith) (λ v. v.amount) (λ v. omega arith) (λ v w. same_ink) };
+    ghost payload = { λ v. v.amount };
 
-    fn code() -> u32 {
-        4
+    ghost payloads = { Prim.search (rules, same_ink) };
+
+    const CODE: u32 = 4;
+
+    fn payload(self) -> u32 {
+        self.number()
     }
 
-    fn width() -> usize {
-        1
+    fn from_payload(number: u32) -> Option<Ink> {
+        (number <= MOST).then(|| Ink::new(number))
     }
+}
 
-    fn word(self, i: usize) -> u32 {
-        word::single(self.number(), i)
-    }
+impl Display for Ink {
+    ghost output = { λ v. Some (decimal v.amount) };
 
-    fn read(given: &[u32]) -> Option<Ink> {
-        let payload = word::payload(given)?;
-        if payload <= MOST {
-            Some(Ink::new(payload))
-        } else {
-            None
-        }
+    ghost styled_output = { λ v s. Some (styled_decimal s v.amount) };
+
+    fn fmt<W: fmt::Write>(&self, f: &mut fmt::Formatter<W>) -> fmt::Result {
+        self.number().fmt(f)
     }
 }
