@@ -1,14 +1,13 @@
 -- Sums over the places of a key.
-use Rattle.std.proofs.Common.{◌≡◌, ℕ, ◌+◌, ◌*◌, ◌<◌, ◌≤◌, Bool, true, false, cond, ◌&&◌, eqb, List, [], ◌∷◌, length, get_or, drop, set, filter, sym, refl, ap, ◌∙◌, subst, ap₂, arith}
+use Rattle.std.proofs.Common.{◌≡◌, ℕ, ◌+◌, ◌*◌, ◌<◌, ◌≤◌, Bool, true, false, cond, ◌&&◌, eqb, List, [], ◌∷◌, length, get_or, set, filter, sym, refl, ap, ◌∙◌, subst, arith}
 use Rattle.std.specs.List.{zip, range_with_len, AllByRecursion as All}
 use Rattle.std.proofs.lemmas.List.FromFn.{fill_by_all}
 use Rattle.std.proofs.lemmas.List.Edits.{fill_by_more}
 use Rattle.std.proofs.ByRecursion.{All-get_or}
-use Rattle.std.proofs.lemmas.List.{drop_more}
 use Rattle.std.proofs.lemmas.Slice.Zip.{get_or-zip, length-zip}
 use Rattle.weight.specs.Kinds.{Kind, Laws}
 use Rattle.weight.specs.Sums.{total}
-use Rattle.weight.proofs.Totals.{zero_plus, total_map, total_more}
+use Rattle.weight.proofs.Totals.{zero_plus, total_map}
 use Rattle.picture.specs.Bodies.{Edge, Within}
 use Rattle.picture.specs.Quadrants.{digit, same}
 use Rattle.picture.specs.declared.body.Arc.{Arc}
@@ -27,13 +26,6 @@ end_within From n a h w = omega (arith, w.0)
 end_within To n a h w = omega (arith, w.1)
 
 module _ {W : Type 0} {k : Kind W} (laws : Laws k) where
-  -- one place more, with the product of two factors
-  pub places_more : (f g : ℕ → W) (places : List ℕ) (i : ℕ) → i < length places → (found next v x y r : W)
-      → next ≡ k.plus found v → v ≡ k.times x y → x ≡ f (get_or places i 0) → y ≡ g (get_or places i 0)
-      → k.plus found (total k (drop i places) (λ j. k.times (f j) (g j))) ≡ r → k.plus next (total k (drop (i + 1) places) (λ j. k.times (f j) (g j))) ≡ r
-  places_more f g places i h found next v x y r e is left right =
-      total_more laws (λ j. k.times (f j) (g j)) _ _ _ found next r (drop_more places i 0 h) (e ∙ ap (k.plus found) (is ∙ ap₂ k.times left right))
-
   -- a sum over what passes a test
   total_kept : {A : Type 0} (p : A → Bool) (t : A → W) (xs : List A) → total k (filter p xs) t ≡ total k xs (λ x. cond (p x) (t x) k.zero)
   total_kept p t [] = refl

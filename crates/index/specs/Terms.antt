@@ -1,9 +1,15 @@
 -- What one arc adds to a step.
 use Rattle.std.specs.Prelude.{ℕ, List, slice_index_or}
+use Rattle.std.specs.List.{zip}
 use Rattle.weight.specs.Kinds.{Kind}
 use Rattle.picture.specs.Bodies.{Edge}
 use Rattle.picture.specs.declared.body.Arc.{Arc}
 use Rattle.index.specs.Keys.{none}
+use Rattle.index.specs.declared.arcs.Arcs.{Arcs}
+
+-- the arcs with their weights
+abbrev pub edges : {W : Type 0} → Arcs W → List (Edge W)
+edges a = zip a.arcs.now a.weights.now
 
 module _ {W : Type 0} (k : Kind W) where
   -- the arc at a place, with its weight

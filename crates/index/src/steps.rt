@@ -1,87 +1,56 @@
-ghost use Rattle.std.specs.Prelude.{◌≡◌, ℕ, ◌<◌, ◌≤◌, map, length, slice_index, slice_index_or};
-ghost use Rattle.std.specs.List.{zip, range_with_len, AllByRecursion};
-ghost use Rattle.weight.specs.Sums.{total};
-ghost use Rattle.picture.specs.Bodies.{Within};
-ghost use Rattle.picture.specs.Steps.{gathered, spread, at_state};
-ghost use Rattle.index.specs.Indexes.{Indexed};
-ghost use Rattle.index.specs.Keys.{none};
-ghost use Rattle.index.specs.Terms.{edge_at, row_term, column_term};
-ghost use Rattle.index.specs.declared.index.End.TheVariants.{From, To};
+ghost use Rattle.std.specs.Prelude.{◌≡◌, ◌<◌, ◌≤◌, length};
+ghost use Rattle.picture.specs.Steps.{at_state, stepped, spreads};
+ghost use Rattle.index.specs.Terms.{edges, edge_at, row_term, column_term};
 
-use crate::index::Index;
-use picture::{Arc, Quadrant};
+use crate::arcs::Arcs;
+use crate::sums::sum_at;
+use picture::Quadrant;
 use weight::Weight;
 
-/// A row times the digit's matrix, by an index of the arcs by their targets.
-pub fn step_row<W: Weight>(
-    index: &Index,
-    arcs: &[Arc],
-    weights: &[W],
-    row: &[W],
-    quadrant: Quadrant,
-    next: &mut [W],
-)
-    requires indexed { Indexed To arcs.now index.now }
-    requires weighted { length weights.now ≡ length arcs.now }
-    requires states { length row.now ≤ 64 }
-    requires ends { AllByRecursion (Within (length row.now)) arcs.now }
-    requires below { length next.old ≤ 64 }
-    ensures { next.new ≡ map (gathered W.kind (zip arcs.now weights.now) (at_state W.kind row.now) quadrant) (range_with_len 0 (length next.old)) }
-{
-    for (q, entry) in next.iter_mut().enumerate() {
-        *entry = gather_row(arcs, weights, row, index.places(quadrant, q));
+// Rows and columns share `sum_at`; which index is read and which factor comes first stands in their own functions.
+// A term has its own function and the clause `states` again: with its body in the closure the sum's proof did not close.
+impl<W: Weight> Arcs<'_, W> {
+    /// A row times the digit's matrix.
+    pub fn step_row(&self, row: &[W], quadrant: Quadrant, next: &mut [W])
+        requires states { self.now.states ≤ length row.now }
+        requires below { length next.old ≤ 64 }
+        ensures { next.new ≡ stepped W.kind (edges self.now) (length next.old) row.now quadrant }
+    {
+        for (q, entry) in next.iter_mut().enumerate() {
+            let places = self.into.places(quadrant, q);
+            *entry = sum_at(places, |at| self.row_term(row, at));
+        }
     }
-}
 
-/// The digit's matrix times a column, by an index of the arcs by their sources.
-pub fn step_column<W: Weight>(
-    index: &Index,
-    arcs: &[Arc],
-    weights: &[W],
-    column: &[W],
-    quadrant: Quadrant,
-    next: &mut [W],
-)
-    requires indexed { Indexed From arcs.now index.now }
-    requires weighted { length weights.now ≡ length arcs.now }
-    requires states { length column.now ≤ 64 }
-    requires ends { AllByRecursion (Within (length column.now)) arcs.now }
-    requires below { length next.old ≤ 64 }
-    ensures { next.new ≡ map (spread W.kind (zip arcs.now weights.now) (at_state W.kind column.now) quadrant) (range_with_len 0 (length next.old)) }
-{
-    for (p, entry) in next.iter_mut().enumerate() {
-        *entry = gather_column(arcs, weights, column, index.places(quadrant, p));
+    /// The digit's matrix times a column.
+    pub fn step_column(&self, column: &[W], quadrant: Quadrant, next: &mut [W])
+        requires states { self.now.states ≤ length column.now }
+        requires below { length next.old ≤ 64 }
+        ensures { next.new ≡ spreads W.kind (edges self.now) (length next.old) column.now quadrant }
+    {
+        for (p, entry) in next.iter_mut().enumerate() {
+            let places = self.out_of.places(quadrant, p);
+            *entry = sum_at(places, |at| self.column_term(column, at));
+        }
     }
-}
 
-/// The sum, over the arcs at some places, of the row at the source times the weight.
-fn gather_row<W: Weight>(arcs: &[Arc], weights: &[W], row: &[W], places: &[u16]) -> W
-    requires within { (i : ℕ) → i < length places.now → slice_index places.now i < length arcs.now }
-    requires weighted { length weights.now ≡ length arcs.now }
-    requires ends { (i : ℕ) → i < length arcs.now → Within (length row.now) (slice_index_or arcs.now i none) }
-    ensures { result ≡ total W.kind places.now (λ i. row_term W.kind (at_state W.kind row.now) (edge_at W.kind arcs.now weights.now i)) }
-{
-    let mut found = W::zero();
-    for place in places {
-        let at = *place as usize;
-        let from = arcs[at].from as usize;
-        found = found.plus(row[from].times(weights[at]));
+    /// The row at the source of an arc times the arc's weight.
+    fn row_term(&self, row: &[W], at: usize) -> W
+        requires states { self.now.states ≤ length row.now }
+        requires within { at < length self.now.arcs.now }
+        ensures { result ≡ row_term W.kind (at_state W.kind row.now) (edge_at W.kind self.now.arcs.now self.now.weights.now at) }
+    {
+        let from = self.arcs[at].from as usize;
+        row[from].times(self.weights[at])
     }
-    found
-}
 
-/// The sum, over the arcs at some places, of the weight times the column at the target.
-fn gather_column<W: Weight>(arcs: &[Arc], weights: &[W], column: &[W], places: &[u16]) -> W
-    requires within { (i : ℕ) → i < length places.now → slice_index places.now i < length arcs.now }
-    requires weighted { length weights.now ≡ length arcs.now }
-    requires ends { (i : ℕ) → i < length arcs.now → Within (length column.now) (slice_index_or arcs.now i none) }
-    ensures { result ≡ total W.kind places.now (λ i. column_term W.kind (at_state W.kind column.now) (edge_at W.kind arcs.now weights.now i)) }
-{
-    let mut found = W::zero();
-    for place in places {
-        let at = *place as usize;
-        let to = arcs[at].to as usize;
-        found = found.plus(weights[at].times(column[to]));
+    /// The weight of an arc times the column at its target.
+    fn column_term(&self, column: &[W], at: usize) -> W
+        requires states { self.now.states ≤ length column.now }
+        requires within { at < length self.now.arcs.now }
+        ensures { result ≡ column_term W.kind (at_state W.kind column.now) (edge_at W.kind self.now.arcs.now self.now.weights.now at) }
+    {
+        let to = self.arcs[at].to as usize;
+        self.weights[at].times(column[to])
     }
-    found
 }

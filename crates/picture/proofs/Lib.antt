@@ -1,5 +1,6 @@
 pub mod Carries
 pub mod DigitPictures
+pub mod Digits
 pub mod Embeddings
 pub mod LawsOfPictures
 pub mod PiecedPictures

@@ -10,7 +10,7 @@ use Rattle.weight.proofs.Totals.{total_append, total_map}
 use Rattle.picture.specs.BodyOperations.{paired}
 use Rattle.picture.proofs.States.{counting_append, states_more}
 
-counting_shift : (c a n : ℕ) → range_with_len (c + a) n ≡ map (λ i. c + i) (range_with_len a n)
+pub counting_shift : (c a n : ℕ) → range_with_len (c + a) n ≡ map (λ i. c + i) (range_with_len a n)
 counting_shift c a zero = refl
 counting_shift c a (suc n) = ap (λ is. (c + a) ∷ is) (ap (λ x. range_with_len x n) (add_assoc c a 1) ∙ counting_shift c (a + 1) n)
 

@@ -1,12 +1,16 @@
 -- A body that is stored within the limits is sound.
-use Rattle.std.proofs.Common.{◌≡◌, ℕ, ◌+◌, List, [], ◌∷◌, ◌++◌, length, take, sym, refl, ap, ◌∙◌, subst, arith}
+use Rattle.std.proofs.Common.{◌≡◌, ℕ, ◌+◌, ◌≤◌, List, [], ◌∷◌, ◌++◌, length, take, sym, refl, ap, ◌∙◌, subst, arith, rules}
+use borrow.Rule.Slice.PartMut.{put_mid}
 use Rattle.std.specs.List.{zip, between, AllByRecursion}
 use Rattle.std.proofs.lemmas.List.Edits.{length-between}
 use Rattle.std.proofs.lemmas.List.{take_at}
+use Rattle.std.proofs.lemmas.Slice.{overwrites, between_is}
 use Rattle.picture.specs.Bodies.{Within, Sound}
+use Rattle.picture.specs.Lent.{lent}
 use Rattle.picture.specs.Stored.{stored, Kept, Fits, Holds}
 use Rattle.picture.specs.declared.body.Arc.{Arc}
 use Rattle.picture.specs.declared.body.Record.{Record}
+use Rattle.picture.specs.declared.stored.Stored.{Stored}
 
 pub all_zipped : {A B : Type 0} (P : A → Type 0) (xs : List A) (ys : List B) → AllByRecursion P xs → AllByRecursion (λ (e : A × B). P e.0) (zip xs ys)
 all_zipped P [] ys h = tt
@@ -31,3 +35,11 @@ holds_made n arcs used rest e fits =
       same = same;
       kept = record { few_states = fits.few_states; few_arcs = fits.few_arcs; ends = subst (AllByRecursion (Within n)) (sym same) fits.ends };
     }
+
+-- and so is a body whose record and weights are lent together
+pub lent_sound : {W : Type 0} (s : Stored W) → Sound (lent s)
+lent_sound s = stored_sound s.record.now s.weights.now s.kept s.room
+
+-- a part below what was written
+pub between_below : {X : Type 0} (a n : ℕ) (xs ys : List X) (i j : ℕ) → j ≤ a → a ≤ length xs → between i j (put_mid a n xs ys) ≡ between i j xs
+between_below a n xs ys i j h l = search (rules, overwrites, between_is)

@@ -9,3 +9,4 @@ pub mod Operations
 pub mod BodyOperations
 pub mod OperationStatements
 pub mod PictureLaws
+pub mod Lent

@@ -1,6 +1,7 @@
 -- Quadrants, the digits that name them, and addresses.
-use Rattle.std.specs.Prelude.{ℕ, zero, suc, Bool, List, Some, None, Option, ◌==◌}
+use Rattle.std.specs.Prelude.{◌≡◌, ℕ, zero, suc, Bool, List, Some, None, Option, Result, MatchResult, ◌==◌}
 use Rattle.std.specs.Option.{unwrap_or}
+use Rattle.picture.specs.declared.quadrant.NoQuadrant.{NoQuadrant}
 use Rattle.picture.specs.declared.quadrant.Quadrant.{Quadrant}
 use Rattle.picture.specs.declared.quadrant.Quadrant.TheVariants.{UpperLeft, UpperRight, LowerLeft, LowerRight}
 
@@ -17,6 +18,10 @@ quadrant (suc zero) = Some UpperRight
 quadrant (suc (suc zero)) = Some LowerLeft
 quadrant (suc (suc (suc zero))) = Some LowerRight
 quadrant (suc (suc (suc (suc n)))) = None
+
+-- the quadrant that a number names, or the number where it names none
+abbrev pub Decodes : ℕ → Result Quadrant NoQuadrant → Type 0
+Decodes n r = MatchResult r (λ d. quadrant n ≡ Some d) (λ e. (e.0 ≡ n) × (quadrant n ≡ None))
 
 -- the quadrant that a number below 4 names, and upper left for any other
 abbrev pub named : ℕ → Quadrant

@@ -14,8 +14,14 @@ pub const MAX_ARCS: usize = 512;
 /// How many weights a body has room for: a first and a last weight for each state, one for each arc.
 pub const BAY: usize = 640;
 
+/// Where the last weights of a body begin among its 640 weights; its first weights begin at 0.
+pub const LAST_WEIGHTS: usize = MAX_STATES;
+
+/// Where the arc weights of a body begin among its 640 weights.
+pub const ARC_WEIGHTS: usize = 2 * MAX_STATES;
+
 /// An arc of a body, without its weight.
-#[derive(Clone, Copy)]
+#[derive(Clone, Copy, Debug, PartialEq, Eq)]
 pub struct Arc {
     pub from: u8,
     pub to: u8,
@@ -23,6 +29,8 @@ pub struct Arc {
 }
 
 /// A body without its weights, which lie in memory that the caller lends.
+// Arcs in an array with their count, and no `Vec`: the library has no heap. What holds of a record stands in `Stored`
+// and in the rack's table: a record is plain.
 #[derive(Clone, Copy)]
 pub struct Record {
     pub states: u8,
@@ -68,10 +76,5 @@ impl Record {
 fn within(states: u8, arcs: &[Arc]) -> bool
     ensures { MatchBool result (AllByRecursion (Within states) arcs.now) (AllByRecursion (Within states) arcs.now → ⊥) }
 {
-    for arc in arcs {
-        if arc.from >= states || arc.to >= states {
-            return false;
-        }
-    }
-    true
+    arcs.iter().all(|arc| arc.from < states && arc.to < states)
 }

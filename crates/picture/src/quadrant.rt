@@ -1,8 +1,8 @@
 ghost use Rattle.std.specs.Prelude.{◌≡◌};
-ghost use Rattle.picture.specs.Quadrants.{digit, quadrant, named, same};
+ghost use Rattle.picture.specs.Quadrants.{digit, named, Decodes};
 
 /// A quarter of a square. An address names it by its digit, 0 to 3 in this order.
-#[derive(Clone, Copy, Debug, PartialEq)]
+#[derive(Clone, Copy, Debug, PartialEq, Eq)]
 pub enum Quadrant {
     UpperLeft,
     UpperRight,
@@ -10,28 +10,37 @@ pub enum Quadrant {
     LowerRight,
 }
 
-impl Quadrant {
-    /// The digit that names this quadrant.
-    pub fn digit(self) -> u8
-        ensures { result ≡ digit self }
-    {
-        self as u8
-    }
+/// A number that is no quadrant's digit.
+#[derive(Clone, Copy, Debug, PartialEq, Eq)]
+pub struct NoQuadrant(pub u8);
 
-    /// The quadrant that a digit names; numbers above 3 name none.
-    pub fn from_digit(number: u8) -> Option<Quadrant>
-        ensures { result ≡ quadrant number }
-    {
+impl From<Quadrant> for u8 {
+    ghost from_gives = { λ q n. n ≡ digit q };
+
+    fn from(quadrant: Quadrant) -> u8 {
+        quadrant as u8
+    }
+}
+
+impl TryFrom<u8> for Quadrant {
+    type Error = NoQuadrant;
+
+    ghost try_from_gives = { Decodes };
+
+    fn try_from(number: u8) -> Result<Quadrant, NoQuadrant> {
         match number {
-            0 => Some(Quadrant::UpperLeft),
-            1 => Some(Quadrant::UpperRight),
-            2 => Some(Quadrant::LowerLeft),
-            3 => Some(Quadrant::LowerRight),
-            _ => None,
+            0 => Ok(Quadrant::UpperLeft),
+            1 => Ok(Quadrant::UpperRight),
+            2 => Ok(Quadrant::LowerLeft),
+            3 => Ok(Quadrant::LowerRight),
+            _ => Err(NoQuadrant(number)),
         }
     }
+}
 
+impl Quadrant {
     /// The quadrant that a number below 4 names, and upper left for any other.
+    // No `try_from` in its place: its callers would unwrap what cannot fail.
     pub fn named(number: usize) -> Quadrant
         ensures { result ≡ named number }
     {
@@ -41,12 +50,5 @@ impl Quadrant {
             3 => Quadrant::LowerRight,
             _ => Quadrant::UpperLeft,
         }
-    }
-
-    /// Whether both are the same quadrant.
-    pub fn is(self, other: Quadrant) -> bool
-        ensures { result ≡ same self other }
-    {
-        self.digit() == other.digit()
     }
 }

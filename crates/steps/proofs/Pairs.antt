@@ -1,9 +1,15 @@
--- What a walk over two slices side by side has left.
-use Rattle.std.proofs.Common.{◌≡◌, List, [], ◌∷◌, length, Iter, ap, ap₂, refl, ◌∙◌, ◌⊎◌, inl, inr}
+-- What a walk over two slices side by side has left, and sums over pairs.
+use Rattle.std.proofs.Common.{◌≡◌, ℕ, ◌+◌, suc, List, [], ◌∷◌, length, Iter, ap, ap₂, refl, ◌∙◌, ◌⊎◌, inl, inr, sym, arith}
 use Rattle.std.proofs.lemmas.List.{nil_from_length}
-use Rattle.std.specs.List.{zip}
+use Rattle.std.specs.List.{zip, range_with_len}
 use Rattle.std.specs.Slice.Iter.{iter_rest}
 use Rattle.std.specs.declared.iter.Zip.{Zip}
+use Rattle.weight.specs.Kinds.{Kind, Laws}
+use Rattle.weight.specs.Sums.{total}
+use Rattle.weight.proofs.Totals.{total_map}
+use Rattle.picture.specs.Steps.{at_state}
+use Rattle.picture.proofs.StateSums.{counting_shift}
+use Rattle.picture.proofs.States.{total_below}
 
 -- the pairs that are left
 abbrev pub pairs_rest : {A B : Type 0} → Zip (Iter A) (Iter B) → List (A × B)
@@ -25,3 +31,15 @@ pub one_pair : {A B : Type 0} (s t : Zip (Iter A) (Iter B)) (a : A) (b : B)
     → (iter_rest s.a ≡ a ∷ iter_rest t.a) × (iter_rest s.b ≡ b ∷ iter_rest t.b)
     → pairs_rest s ≡ (a, b) ∷ pairs_rest t
 one_pair s t a b h = ap₂ zip h.0 h.1
+
+-- a sum over two lists side by side goes by the states
+pub total_pairs : {W : Type 0} {k : Kind W} → Laws k → (xs ys : List W) → length xs ≡ length ys
+    → total k (zip xs ys) (λ p. k.times p.0 p.1) ≡ total k (range_with_len 0 (length xs)) (λ q. k.times (at_state k xs q) (at_state k ys q))
+total_pairs laws [] ys e = refl
+total_pairs laws (x ∷ xs) [] e = absurd (omega arith)
+total_pairs {k = k} laws (x ∷ xs) (y ∷ ys) e =
+    let term = λ (q : ℕ). k.times (at_state k (x ∷ xs) q) (at_state k (y ∷ ys) q) in
+    ap (k.plus (k.times x y))
+    (total_pairs laws xs ys (omega arith)
+    ∙ total_below laws (length xs) _ (λ i. term (1 + i)) (λ i h. let one : suc i ≡ 1 + i = omega arith in ap term one)
+    ∙ sym (ap (λ is. total k is term) (counting_shift 1 0 (length xs)) ∙ total_map laws (λ i. 1 + i) (range_with_len 0 (length xs)) term))

@@ -14,7 +14,7 @@ fn gather<W: Weight>(arcs: &[Arc], weights: &[W], row: &[W], quadrant: Quadrant,
 {
     let mut sum = W::zero();
     for (arc, weight) in arcs.iter().zip(weights) {
-        if arc.to as usize == q && arc.quadrant.is(quadrant) {
+        if arc.to as usize == q && arc.quadrant == quadrant {
             sum = sum.plus(row[arc.from as usize].times(*weight));
         }
     }
@@ -32,8 +32,8 @@ pub fn advance<W: Weight>(
     requires { AllByRecursion (λ e. e.0.from < length row.now) (zip arcs.now weights.now) }
     ensures { next.new ≡ stepped W.kind (zip arcs.now weights.now) (length next.old) row.now quadrant }
 {
-    for q in 0..next.len() {
-        next[q] = gather(arcs, weights, row, quadrant, q);
+    for (q, entry) in next.iter_mut().enumerate() {
+        *entry = gather(arcs, weights, row, quadrant, q);
     }
 }
 
@@ -43,8 +43,8 @@ pub fn meet<W: Weight>(row: &[W], column: &[W]) -> W
     ensures { result ≡ total W.kind (range_with_len 0 (length row.now)) (λ q. W.kind.times (at_state W.kind row.now q) (at_state W.kind column.now q)) }
 {
     let mut sum = W::zero();
-    for q in 0..row.len() {
-        sum = sum.plus(row[q].times(column[q]));
+    for (weight, other) in row.iter().zip(column) {
+        sum = sum.plus(weight.times(*other));
     }
     sum
 }

@@ -1,14 +1,11 @@
 -- Equally long parts, one after the other.
-use Rattle.std.proofs.Common.{◌≡◌, ℕ, zero, suc, ◌+◌, ◌-◌, ◌*◌, ◌<◌, ◌≤◌, List, [], ◌∷◌, ◌++◌, length, take, drop, sym, refl, ap, ◌∙◌, ap₂, append_assoc, append-nil, add-zero, add_assoc, suc-mul, zero-add, zero-mul, add-one, arith, length-append}
+use Rattle.std.proofs.Common.{◌≡◌, ℕ, zero, suc, ◌+◌, ◌-◌, ◌*◌, ◌<◌, ◌≤◌, List, [], ◌++◌, length, take, drop, sym, refl, ap, ◌∙◌, ap₂, append_assoc, append-nil, add-zero, add_assoc, suc-mul, zero-add, zero-mul, add-one, arith, length-append}
 use Rattle.std.specs.List.{range_with_len, flat_map}
+use Rattle.std.proofs.lemmas.Grind.{flat_map-append}
 use Rattle.std.proofs.lemmas.List.Edits.{length-between}
 use Rattle.std.proofs.lemmas.List.{take_at, drop_at}
 use Rattle.picture.proofs.States.{counting_append}
 use Rattle.tile.specs.Bands.{slot}
-
-pub joined_append : {A W : Type 0} (f : A → List W) (xs ys : List A) → flat_map f (xs ++ ys) ≡ flat_map f xs ++ flat_map f ys
-joined_append f [] ys = refl
-joined_append f (x ∷ xs) ys = ap (λ zs. f x ++ zs) (joined_append f xs ys) ∙ sym (append_assoc (f x) (flat_map f xs) (flat_map f ys))
 
 module _ {W : Type 0} where
   joined_from : (f g : ℕ → List W) (a n : ℕ) → ((i : ℕ) → a ≤ i → i < a + n → f i ≡ g i) → flat_map f (range_with_len a n) ≡ flat_map g (range_with_len a n)
@@ -25,7 +22,7 @@ module _ {W : Type 0} where
   pub joined_add : (f : ℕ → List W) (m n : ℕ) → flat_map f (range_with_len 0 (m + n)) ≡ flat_map f (range_with_len 0 m) ++ flat_map (λ i. f (m + i)) (range_with_len 0 n)
   joined_add f m n =
       ap (flat_map f) (counting_append 0 m n)
-      ∙ joined_append f (range_with_len 0 m) (range_with_len (0 + m) n)
+      ∙ flat_map-append f (range_with_len 0 m) (range_with_len (0 + m) n)
       ∙ ap (λ zs. flat_map f (range_with_len 0 m) ++ zs) (ap (λ z. flat_map f (range_with_len z n)) (zero-add m ∙ sym (add-zero m)) ∙ joined_shift f m 0 n)
 
   length_from : (f : ℕ → List W) (s a n : ℕ) → ((i : ℕ) → a ≤ i → i < a + n → length (f i) ≡ s) → length (flat_map f (range_with_len a n)) ≡ n * s

@@ -1,9 +1,11 @@
 pub mod Alongs
 pub mod Bits
 pub mod Lifts
+pub mod Lines
 pub mod Meets
-pub mod Rows
+pub mod Halves
 pub mod Grids
 pub mod Joins
+pub mod Sounds
 pub mod Squares
 pub mod Tops

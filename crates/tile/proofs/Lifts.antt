@@ -8,13 +8,8 @@ use Rattle.picture.specs.Quadrants.{named}
 use Rattle.picture.specs.Steps.{spreads, backed}
 use Rattle.picture.proofs.Carries.{length_backed}
 use Rattle.tile.specs.Bands.{slot, columns_along}
-use Rattle.tile.proofs.Joins.{joined_below, slot_joined}
+use Rattle.tile.proofs.Joins.{joined_below, slot_joined, length_slot}
 use Rattle.tile.proofs.Squares.{part_fits, four_pos, all_written}
-
-pub four_le : (j : ℕ) → j ≤ 1 → 4 ^ j ≤ 4
-four_le zero h = omega arith
-four_le (suc zero) h = omega arith
-four_le (suc (suc j)) h = absurd (omega arith)
 
 pub four_more : (j : ℕ) → 4 ^ (j + 1) ≡ 4 * 4 ^ j
 four_more j = ap (λ z. 4 ^ z) (add-one j) ∙ pow-suc 4 j ∙ omega arith
@@ -22,13 +17,9 @@ four_more j = ap (λ z. 4 ^ z) (add-one j) ∙ pow-suc 4 j ∙ omega arith
 pub lift_room : (c j count n len : ℕ) → count ≡ 4 ^ j → c < 4 * count → len ≡ 4 ^ (j + 1) * n → c * n + n ≤ len
 lift_room c j count n len e h l = omega (arith, part_fits c (4 * count) n h, ap (λ z. z * n) (four_more j ∙ ap (λ z. 4 * z) (sym e)))
 
-pub lift_slot : (c j count n len : ℕ) → count ≡ 4 ^ j → len ≡ 4 ^ j * n → c % count * n + n ≤ len
-lift_slot c j count n len e l =
-    let h : 0 < count = omega (arith, four_pos j) in
-    omega (arith, part_fits (c % count) count n (mod-lt c h), ap (λ z. z * n) e)
-
-pub lift_small : (c j count n : ℕ) → count ≡ 4 ^ j → j ≤ 1 → c < 4 * count → n ≤ 64 → c * n + n ≤ 1024
-lift_small c j count n e few h l = omega (arith, four_le j few, part_fits c 16 n (omega (arith, four_le j few)))
+-- the part that a column is written to is as long as a column
+pub next_long : {W : Type 0} (c j count n : ℕ) (longer : List W) → count ≡ 4 ^ j → c < 4 * count → length longer ≡ 4 ^ (j + 1) * n → length (slot n c longer) ≡ n
+next_long c j count n longer e h l = length_slot n c longer (lift_room c j count n (length longer) e h l)
 
 -- the lower digits of a number are those of its remainder
 prefix_rest : (j c : ℕ) → j ≤ 1 → base_four j (c % 4 ^ j) ≡ base_four j c

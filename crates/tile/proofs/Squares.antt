@@ -3,6 +3,7 @@ use Rattle.std.proofs.Common.{◌≡◌, ℕ, zero, suc, ◌+◌, ◌-◌, ◌*�
 use native.Mathlib.Nat.{two-pow-succ, one-le-pow}
 use borrow.Rule.Slice.PartMut.{put_mid}
 use Rattle.std.specs.List.{range_with_len, flat_map}
+use Rattle.std.proofs.Math.Nat.{pow-le-pow_right}
 use Rattle.std.proofs.lemmas.Nat.{mul-le, one_shl}
 use Rattle.std.proofs.lemmas.List.{flat_map_more, take_all, places}
 use Rattle.std.proofs.lemmas.Slice.{take-put_mid}
@@ -51,24 +52,10 @@ all_written f m n out l e = sym (take_all (m * n) out (omega arith)) ∙ e
 
 -- rows and columns of a tile fit their room
 pub columns_small : (j n : ℕ) → j ≤ 2 → n ≤ 64 → 4 ^ j * n ≤ 1024
-columns_small j n h l = mul-le (4 ^ j) n 16 64 (four_small j h) l
-  where
-    four_small : (j : ℕ) → j ≤ 2 → 4 ^ j ≤ 16
-    four_small zero h = omega arith
-    four_small (suc zero) h = omega arith
-    four_small (suc (suc zero)) h = omega arith
-    four_small (suc (suc (suc j))) h = absurd (omega arith)
+columns_small j n h l = mul-le (4 ^ j) n 16 64 (pow-le-pow_right (lit< tt) h) l
 
 pub rows_small : (j n : ℕ) → j ≤ 4 → n ≤ 64 → 2 ^ j * n ≤ 1024
-rows_small j n h l = mul-le (2 ^ j) n 16 64 (two_small j h) l
-  where
-    two_small : (j : ℕ) → j ≤ 4 → 2 ^ j ≤ 16
-    two_small zero h = omega arith
-    two_small (suc zero) h = omega arith
-    two_small (suc (suc zero)) h = omega arith
-    two_small (suc (suc (suc zero))) h = omega arith
-    two_small (suc (suc (suc (suc zero)))) h = omega arith
-    two_small (suc (suc (suc (suc (suc j))))) h = absurd (omega arith)
+rows_small j n h l = mul-le (2 ^ j) n 16 64 (pow-le-pow_right (lit< tt) h) l
 
 -- a square of cells is so many bands
 pub bands_fill : (c f depth : ℕ) → c + f ≡ depth → 2 ^ depth * 2 ^ depth ≡ 2 ^ c * (2 ^ f * 2 ^ depth)

@@ -2,14 +2,17 @@
 #![tactic(auto)]
 
 mod automaton;
-mod bands;
 mod cells;
 mod columns;
+mod grid;
 mod plain;
 mod powers;
 mod printing;
+mod room;
+mod rows;
 mod slots;
-mod tiles;
+mod square;
 
 pub use plain::cell;
-pub use printing::{Fault, SCRATCH, print, print_row};
+pub use printing::{Fault, Tile, print, print_row};
+pub use room::SCRATCH;

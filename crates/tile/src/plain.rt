@@ -1,12 +1,11 @@
 //! One cell, by taking the first row along its address.
 ghost use Rattle.std.specs.Prelude.{◌≡◌, ◌<◌, length};
 ghost use Rattle.std.specs.List.{zip, AllByRecursion};
+ghost use Rattle.picture.specs.Lent.{lent};
 ghost use Rattle.picture.specs.Pictures.{picture};
 ghost use Rattle.picture.specs.Steps.{carried};
-ghost use Rattle.picture.specs.Stored.{stored, Kept};
 
-use crate::automaton::{ARC_WEIGHTS, LAST_WEIGHTS};
-use picture::{Arc, MAX_STATES, Quadrant, Record};
+use picture::{Arc, MAX_STATES, Quadrant, Stored};
 use steps::{advance, meet};
 use weight::Weight;
 
@@ -28,21 +27,15 @@ fn travel<W: Weight>(
     }
 }
 
-/// The cell at an address of the body that a place's record and its weights hold; `scratch` is room for two rows.
-pub fn cell<W: Weight>(place: &Record, weights: &[W], address: &[Quadrant], scratch: &mut [W]) -> W
-    requires kept { Kept place.now }
-    requires weights { length weights.now ≡ 640 }
+/// The cell of a body at an address; `scratch` is room for two rows.
+pub fn cell<W: Weight>(body: Stored<'_, W>, address: &[Quadrant], scratch: &mut [W]) -> W
     requires scratch { length scratch.old ≡ 128 }
-    ensures { result ≡ picture W.kind (stored place.now weights.now) address.now }
+    ensures { result ≡ picture W.kind (lent body.entry) address.now }
 {
-    let n = place.states as usize;
-    let m = place.count as usize;
-    let all = &place.arcs[..];
     let (first, second) = scratch.split_at_mut(MAX_STATES);
-    let row = &mut first[0..n];
-    let next = &mut second[0..n];
-    row.copy_from_slice(&weights[0..n]);
-    let arc_weights = &weights[ARC_WEIGHTS..ARC_WEIGHTS + m];
-    travel(&all[0..m], arc_weights, address, row, next);
-    meet(row, &weights[LAST_WEIGHTS..LAST_WEIGHTS + n])
+    let row = &mut first[0..body.states()];
+    let next = &mut second[0..body.states()];
+    row.copy_from_slice(body.first());
+    travel(body.arcs(), body.arc_weights(), address, row, next);
+    meet(row, body.last())
 }

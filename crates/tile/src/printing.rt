@@ -1,14 +1,19 @@
 //! Printing: the cells of a tile of a stored body, or of one row of it.
-ghost use Rattle.std.specs.Prelude.{◌≡◌, ◌-◌, length, MatchOption};
+ghost use Rattle.std.specs.Prelude.{◌≡◌, ◌-◌, length, Some, MatchResult};
 ghost use Rattle.picture.specs.Cells.{Printable};
+ghost use Rattle.picture.specs.Lent.{lent};
 ghost use Rattle.picture.specs.Pictures.{picture};
-ghost use Rattle.picture.specs.Stored.{stored, Kept};
-ghost use Rattle.tile.specs.Faults.{number};
+ghost use Rattle.tile.specs.Faults.{number, text};
 ghost use Rattle.tile.specs.Outcomes.{Outcome, RowOutcome};
+ghost use Rattle.tile.specs.declared.printing.Fault.TheVariants.{NoTile};
 
-use crate::automaton::Automaton;
+use crate::grid::Grid;
 use crate::powers::{power, side};
-use picture::{MAX_STATES, Record};
+use crate::room::GRID;
+use crate::square::Square;
+use picture::Stored;
+use std::error::Error;
+use std::fmt;
 use weight::Weight;
 
 /// The largest depth.
@@ -17,11 +22,36 @@ const MAX_DEPTH: usize = 12;
 /// The largest depth of a tile.
 const MAX_TILE: usize = 6;
 
-/// How many weights of scratch a print needs: two rows, and the rows and columns of the tile.
-pub const SCRATCH: usize = 2688;
+/// A tile: the cells at a depth under a prefix of so many digits.
+#[derive(Clone, Copy, Debug, PartialEq, Eq)]
+pub struct Tile {
+    pub depth: usize,
+    pub digits: usize,
+    pub prefix: usize,
+}
+
+impl Tile {
+    /// The square of cells of the tile, if it can be printed.
+    fn square(self) -> Result<Square, Fault>
+        ensures { MatchResult result (λ square. Printable self.depth self.digits self.prefix × (square.prefix ≡ self.prefix) × (square.digits ≡ self.digits) × (square.depth ≡ self.depth - self.digits)) (λ fault. (Printable self.depth self.digits self.prefix → ⊥) × (fault ≡ NoTile)) }
+    {
+        if self.depth > MAX_DEPTH
+            || self.digits > self.depth
+            || self.depth - self.digits > MAX_TILE
+            || self.prefix >= power(self.digits as u8)
+        {
+            return Err(Fault::NoTile);
+        }
+        Ok(Square {
+            prefix: self.prefix,
+            digits: self.digits as u8,
+            depth: (self.depth - self.digits) as u8,
+        })
+    }
+}
 
 /// Why a tile or a row of it is not printed.
-#[derive(Clone, Copy)]
+#[derive(Clone, Copy, Debug, PartialEq, Eq)]
 pub enum Fault {
     /// The depth, the prefix's length and the prefix name no tile that can be printed, or it has no such row.
     NoTile,
@@ -31,6 +61,7 @@ pub enum Fault {
 
 impl Fault {
     /// The refusal's number.
+    // A refusal is more than its number, and no number makes one: a method, and no conversion.
     pub fn number(self) -> u8
         ensures { result ≡ number self }
     {
@@ -41,78 +72,60 @@ impl Fault {
     }
 }
 
-/// The depth of the tile that the numbers name, if it can be printed.
-fn tile_depth(depth: usize, digits: usize, prefix: usize) -> Option<u8>
-    ensures { MatchOption result (Printable depth digits prefix → ⊥) (λ deep. Printable depth digits prefix × (deep ≡ depth - digits)) }
-{
-    if depth > MAX_DEPTH
-        || digits > depth
-        || depth - digits > MAX_TILE
-        || prefix >= power(digits as u8)
-    {
-        return None;
+// By hand: what a derive of `thiserror` writes promises nothing of the text.
+impl fmt::Display for Fault {
+    ghost output = { λ f. Some (text f) };
+
+    fn fmt<W: fmt::Write>(&self, f: &mut fmt::Formatter<W>) -> fmt::Result {
+        f.write_str(match self {
+            Fault::NoTile => "the numbers name no tile that can be printed",
+            Fault::ShortOutput => "the output has no room for the cells",
+        })
     }
-    Some((depth - digits) as u8)
 }
 
-/// Writes the cells at a depth under a prefix of so many digits, and answers how many they are.
-pub fn print<'a, W: Weight>(
-    place: &'a Record,
-    weights: &'a [W],
-    depth: usize,
-    digits: usize,
-    prefix: usize,
+impl Error for Fault {}
+
+/// Writes the cells of a tile, and answers how many they are.
+pub fn print<W: Weight>(
+    body: Stored<'_, W>,
+    tile: Tile,
     scratch: &mut [W],
     cells: &mut [W],
 ) -> Result<usize, Fault>
-    requires kept { Kept place.now }
-    requires weights { length weights.now ≡ 640 }
     requires scratch { length scratch.old ≡ 2688 }
-    ensures { Outcome (picture W.kind (stored place.now weights.now)) depth digits prefix cells.old cells.new result }
+    ensures { Outcome (picture W.kind (lent body.entry)) tile.depth tile.digits tile.prefix cells.old cells.new result }
 {
-    let Some(deep) = tile_depth(depth, digits, prefix) else {
-        return Err(Fault::NoTile);
-    };
-    let count = power(deep);
+    let square = tile.square()?;
+    let count = power(square.depth);
     if cells.len() < count {
         return Err(Fault::ShortOutput);
     }
-    let body = Automaton::new(place, weights);
-    let (room, rest) = scratch.split_at_mut(2 * MAX_STATES);
-    let row = body.along(prefix, digits as u8, room);
-    body.tile(row, deep, rest, &mut cells[0..count]);
+    let (room, rest) = scratch.split_at_mut(GRID);
+    Grid::new(body, square, room).all(rest, &mut cells[0..count]);
     Ok(count)
 }
 
-/// Writes row `y` of the cells at a depth under a prefix of so many digits, and answers how many they are.
-pub fn print_row<'a, W: Weight>(
-    place: &'a Record,
-    weights: &'a [W],
-    depth: usize,
-    digits: usize,
-    prefix: usize,
+/// Writes row `y` of the cells of a tile, and answers how many they are.
+pub fn print_row<W: Weight>(
+    body: Stored<'_, W>,
+    tile: Tile,
     y: usize,
     scratch: &mut [W],
     cells: &mut [W],
 ) -> Result<usize, Fault>
-    requires kept { Kept place.now }
-    requires weights { length weights.now ≡ 640 }
     requires scratch { length scratch.old ≡ 2688 }
-    ensures { RowOutcome (picture W.kind (stored place.now weights.now)) depth digits prefix y cells.old cells.new result }
+    ensures { RowOutcome (picture W.kind (lent body.entry)) tile.depth tile.digits tile.prefix y cells.old cells.new result }
 {
-    let Some(deep) = tile_depth(depth, digits, prefix) else {
-        return Err(Fault::NoTile);
-    };
-    let wide = side(deep);
+    let square = tile.square()?;
+    let wide = side(square.depth);
     if y >= wide {
         return Err(Fault::NoTile);
     }
     if cells.len() < wide {
         return Err(Fault::ShortOutput);
     }
-    let body = Automaton::new(place, weights);
-    let (room, rest) = scratch.split_at_mut(2 * MAX_STATES);
-    let row = body.along(prefix, digits as u8, room);
-    body.cell_row(row, deep, y, rest, &mut cells[0..wide]);
+    let (room, rest) = scratch.split_at_mut(GRID);
+    Grid::new(body, square, room).row(y, rest, &mut cells[0..wide]);
     Ok(wide)
 }

@@ -35,14 +35,14 @@ term k row d q arc x w product at turned below read is =
     let value = get_or_read row arc.from x below read k.zero in
     rw (to, digit) (ap (λ y. k.times y w) (sym value) ∙ sym is)
 
-pub loop-arc-preserved-then-is : goal.loop-arc-preserved-then-is
-loop-arc-preserved-then-is g c =
+pub loop-arc-preserved-then-eq : goal.loop-arc-preserved-then-eq
+loop-arc-preserved-then-eq g c =
     let k = g.W.Weight.kind in
     let arc = c.in-Some.arc.now in
     let weight = c.in-Some.weight.now in
     let next = one_pair c.loop-arc.arc-iterator c.next.new.self arc weight c.in-Some.ensures.steps in
     let left : AllByRecursion (λ e. e.0.from < length c.args.row.now) ((arc, weight) ∷ pairs_rest c.next.new.self) = subst (AllByRecursion (λ e. e.0.from < length c.args.row.now)) next c.loop-arc.invariant.2 in
-    let here = term k c.args.row.now c.args.quadrant c.args.q arc _ weight _ c.if-arc-q.true c.if-is.ensures left.0 c.index-row-arc.is c.times.ensures in
+    let here = term k c.args.row.now c.args.quadrant c.args.q arc _ weight _ c.if-arc-q.true (search rules) left.0 c.index-row-arc.is c.times.ensures in
     ((tt, tt), tt, left.1, total_more g.met.W.Weight.laws _ _ _ _ _ _ _ next (c.plus-sum.ensures ∙ ap (k.plus c.loop-arc.sum) (sym here)) c.loop-arc.invariant.3)
 
 pub loop-arc-preserved : goal.loop-arc-preserved

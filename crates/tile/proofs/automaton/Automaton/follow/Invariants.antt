@@ -1,4 +1,4 @@
-use Rattle.std.proofs.Common.{◌≡◌, ◌≤◌, ◌++◌}
+use Rattle.std.proofs.Common.{◌≡◌, ◌++◌}
 use Rattle.picture.specs.Cells.{base_four}
 use Rattle.picture.specs.Pictures.{value}
 use Rattle.picture.specs.Quadrants.{Address}
@@ -9,7 +9,4 @@ use Rattle.tile.proofs.automaton.Automaton.follow.Given as goal
 abbrev pub invariant-loop-left : goal.invariant-loop-left
 invariant-loop-left g l =
     let k = g.W.Weight.kind in
-    (l.left ≤ 12) × ((w : Address) → value k (body l.self) (at_state k l.row) (base_four l.left l.prefix ++ w) ≡ value k (body l.self) (at_state k l.initial.row) (base_four l.digits l.prefix ++ w))
-
-abbrev pub decreases-loop-left : goal.decreases-loop-left
-decreases-loop-left g l = l.left
+    (w : Address) → value k (body l.self) (at_state k l.row) (base_four l.left l.square.prefix ++ w) ≡ value k (body l.self) (at_state k l.initial.row) (base_four l.square.digits l.square.prefix ++ w)

@@ -1,0 +1,23 @@
+ghost use Rattle.std.specs.Prelude.{◌≡◌, length};
+ghost use Rattle.std.proofs.Props.{props};
+ghost use Rattle.picture.specs.Stored.{Kept};
+
+use crate::body::Record;
+use std::alloc::AllocError;
+
+/// A body in memory: its record, and the 640 weights that the caller lends.
+pub struct Stored<'a, W> {
+    pub record: &'a Record,
+    pub weights: &'a [W],
+    ghost kept: { Kept record.now } by { Prim.hlevel props },
+    ghost room: { length weights.now ≡ 640 },
+}
+
+// By hand: a derive would ask that weights are `Copy`, and is refused beside a ghost field.
+impl<W> Clone for Stored<'_, W> {
+    fn clone(&self) -> Result<Self, AllocError> {
+        Ok(*self)
+    }
+}
+
+impl<W> Copy for Stored<'_, W> {}

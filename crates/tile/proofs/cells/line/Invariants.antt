@@ -1,8 +1,0 @@
-use Rattle.std.proofs.Common.{◌≡◌, ℕ, ◌/◌, ◌^◌, ◌<◌, get_or}
-use Rattle.tile.specs.Bands.{slot, meeting, interleaved}
-use Rattle.tile.proofs.cells.line.Given as goal
-
-abbrev pub invariant-loop-x : goal.invariant-loop-x
-invariant-loop-x g l =
-    let k = g.W.Weight.kind in
-    (i : ℕ) → i < l.x → get_or l.cells i k.zero ≡ meeting k l.states (slot l.states (i / 2 ^ l.fine) l.rows) (slot l.states (interleaved l.fine i l.y) l.columns)
