@@ -1,46 +1,37 @@
 -- The arcs and the weights of a sum.
-use Rattle.std.proofs.Common.{◌≡◌, ◌+◌, ◌-◌, ◌≤◌, List, ◌++◌, map, length, take, sym, ap, ◌∙◌, ap₂, arith}
+use Rattle.std.proofs.Common.{◌≡◌, ℕ, ◌+◌, ◌-◌, ◌≤◌, List, ◌++◌, map, length, take, sym, ap, ◌∙◌, ap₂, arith}
 use borrow.Rule.Slice.PartMut.{put_mid}
 use Rattle.std.specs.List.{zip, between}
-use Rattle.std.proofs.lemmas.List.{length-append, length-map}
+use Rattle.std.proofs.lemmas.List.{length-append, length-map, length-take}
 use Rattle.std.proofs.lemmas.Slice.{take-put_mid}
+use Rattle.picture.specs.Bodies.{Body}
 use Rattle.picture.specs.BodyOperations.{raised_arc, raised, sum_body}
-use Rattle.picture.specs.Stored.{stored, Kept}
+use Rattle.picture.specs.Lent.{lent, arcs_of}
 use Rattle.picture.specs.declared.body.Arc.{Arc}
-use Rattle.picture.specs.declared.body.Record.{Record}
-use Rattle.compose.proofs.Zipped.{zipped_append, zipped_map, arcs_long, weights_long, stored_count}
+use Rattle.picture.specs.declared.stored.Stored.{Stored}
+use Rattle.compose.specs.Faults.{excess, over_limit}
+use Rattle.compose.proofs.Zipped.{zipped_append, zipped_map, lent_count}
 
-module _ {W : Type 0} (a b : Record) (front back : List W) (ka : Kept a) (kb : Kept b) (ra : length front ≡ 640) (rb : length back ≡ 640)
-    (fa : length a.arcs ≡ 512) (fb : length b.arcs ≡ 512) where
-  pub sum_count : length (sum_body (stored a front) (stored b back)).arcs ≡ a.count + b.count
-  sum_count =
-      length-append (stored a front).arcs (map (raised a.states) (stored b back).arcs)
-      ∙ ap₂ ◌+◌ (stored_count a front ka ra fa) (length-map (stored b back).arcs (raised a.states) ∙ stored_count b back kb rb fb)
+-- which limit the sum of two bodies in memory passes
+pub sum_excess : {W : Type 0} (a b : Stored W) (n m : ℕ) (xs ys : List Arc) → n ≡ (lent a).states → m ≡ (lent b).states
+    → xs ≡ arcs_of a → length xs ≡ a.record.now.count → ys ≡ arcs_of b → length ys ≡ b.record.now.count
+    → over_limit (sum_body (lent a) (lent b)) ≡ excess (n + m) (length xs + length ys)
+sum_excess a b n m xs ys en em ex cx ey cy =
+    let raised_long = length-map (lent b).arcs (raised (lent a).states) in
+    ap₂ excess (ap₂ ◌+◌ (sym en) (sym em)) (length-append (lent a).arcs (map (raised (lent a).states) (lent b).arcs) ∙ ap₂ ◌+◌ (lent_count a xs ex cx) (raised_long ∙ lent_count b ys ey cy))
 
-  pub sum_arcs : (ws : List W) → ws ≡ between 128 (128 + a.count) front ++ between 128 (128 + b.count) back
-      → zip (between 0 a.count a.arcs ++ map (raised_arc a.states) (between 0 b.count b.arcs)) ws ≡ (sum_body (stored a front) (stored b back)).arcs
-  sum_arcs ws e =
-      ap (zip (between 0 a.count a.arcs ++ map (raised_arc a.states) (between 0 b.count b.arcs))) e
-      ∙ zipped_append (between 0 a.count a.arcs) _ (between 128 (128 + a.count) front) _ (arcs_long a front ka ra fa ∙ sym (weights_long a front ka ra fa))
-      ∙ ap (λ zs. (stored a front).arcs ++ zs) (zipped_map (raised_arc a.states) (between 0 b.count b.arcs) (between 128 (128 + b.count) back))
+-- bodies with these arcs and arc weights
+pub sum_arcs : {W : Type 0} (a b : Body W) (xs ys : List Arc) (us vs ws : List W) → zip xs us ≡ a.arcs → zip ys vs ≡ b.arcs → length us ≡ length xs → ws ≡ us ++ vs
+    → zip (xs ++ map (raised_arc a.states) ys) ws ≡ (sum_body a b).arcs
+sum_arcs a b xs ys us vs ws ea eb l e =
+    ap (zip (xs ++ map (raised_arc a.states) ys)) e
+    ∙ zipped_append xs (map (raised_arc a.states) ys) us vs (sym l)
+    ∙ ap₂ ◌++◌ ea (zipped_map (raised_arc a.states) ys vs ∙ ap (map (raised a.states)) eb)
 
-  pub sum_weights_long : (ws : List W) → ws ≡ between 128 (128 + a.count) front ++ between 128 (128 + b.count) back → length ws ≡ a.count + b.count
-  sum_weights_long ws e =
-      ap length e ∙ length-append (between 128 (128 + a.count) front) (between 128 (128 + b.count) back)
-      ∙ ap₂ ◌+◌ (weights_long a front ka ra fa) (weights_long b back kb rb fb)
-
-  module _ (tail : List Arc) (is : tail ≡ map (raised_arc a.states) (between 0 b.count b.arcs)) where
-    tail_long : length tail ≡ b.count
-    tail_long = ap length is ∙ length-map (between 0 b.count b.arcs) (raised_arc a.states) ∙ arcs_long b back kb rb fb
-
-    -- b's arcs written after a's
-    pub arcs_after : a.count + b.count ≤ 512 → between 0 (a.count + b.count) (put_mid a.count (a.count + b.count - a.count) a.arcs tail)
-        ≡ between 0 a.count a.arcs ++ map (raised_arc a.states) (between 0 b.count b.arcs)
-    arcs_after h =
-        let long = tail_long in
-        take-put_mid a.count _ a.arcs tail _ (omega arith) (omega arith) ∙ ap₂ ◌++◌ (ap (λ n. take n a.arcs) (omega arith)) is
-
-  pub both_long : length (between 0 a.count a.arcs ++ map (raised_arc a.states) (between 0 b.count b.arcs)) ≡ a.count + b.count
-  both_long =
-      length-append (between 0 a.count a.arcs) _
-      ∙ ap₂ ◌+◌ (arcs_long a front ka ra fa) (length-map (between 0 b.count b.arcs) (raised_arc a.states) ∙ arcs_long b back kb rb fb)
+-- arcs written after the first n of `all`
+pub arcs_after : (all xs ys : List Arc) (n m : ℕ) → xs ≡ between 0 n all → length xs ≡ n → length ys ≡ m
+    → between 0 (length xs + m) (put_mid (length xs) (length xs + m - length xs) all ys) ≡ xs ++ ys
+arcs_after all xs ys n m is long lm =
+    let start : xs ≡ take (length xs) all = is ∙ ap (λ k. take k all) (omega arith) in
+    let fits : length xs ≤ length all = omega (arith, ap length start, length-take (length xs) all) in
+    take-put_mid (length xs) _ all ys _ (omega arith) fits ∙ ap (λ zs. zs ++ ys) (sym start)

@@ -1,5 +1,4 @@
 pub mod Bounds
-pub mod Copies
 pub mod Zipped
 pub mod Written
 pub mod Adding

@@ -1,8 +1,6 @@
 -- The record of a turned or mirrored body.
-use Rattle.std.proofs.Common.{◌≡◌, ◌+◌, ◌-◌, List, map, length, sym, ap, ◌∙◌, subst, arith}
-use borrow.Rule.Slice.PartMut.{put_mid}
+use Rattle.std.proofs.Common.{◌≡◌, ℕ, ◌+◌, ◌-◌, List, map, length, sym, ap, ◌∙◌, subst, arith}
 use Rattle.std.specs.List.{zip, between, AllByRecursion}
-use Rattle.std.proofs.lemmas.List.Edits.{length-between}
 use Rattle.std.proofs.ByRecursion.{All-map}
 use Rattle.std.proofs.lemmas.List.{length-map}
 use Rattle.std.proofs.lemmas.Slice.{between-put_mid}
@@ -12,25 +10,20 @@ use Rattle.picture.specs.Stored.{stored, Kept}
 use Rattle.picture.specs.declared.body.Arc.{Arc}
 use Rattle.picture.specs.declared.body.Record.{Record}
 use Rattle.picture.specs.declared.quadrant.Quadrant.{Quadrant}
-use Rattle.picture.proofs.DigitPictures.{Replaces, turn_replaces, mirror_replaces}
-use Rattle.compose.specs.Motions.{replacement, becoming}
-use Rattle.compose.specs.declared.digits.Motion.{Motion}
-use Rattle.compose.specs.declared.digits.Motion.TheVariants.{Turn, Mirror}
 use Rattle.compose.proofs.Zipped.{zipped_map}
+use borrow.Rule.Slice.PartMut.{put_mid}
 
-pub motion_replaces : (m : Motion) → Replaces (replacement m) (becoming m)
-motion_replaces Turn = turn_replaces
-motion_replaces Mirror = mirror_replaces
-
-module _ (r : Record) (kept : Kept r) (full : length r.arcs ≡ 512) (g : Quadrant → Quadrant) (made : List Arc) (is : made ≡ map (redirected g) (between 0 r.count r.arcs)) where
+-- the first n arcs of a record, all that it counts, are replaced
+module _ (r : Record) (kept : Kept r) (n : ℕ) (en : n ≡ r.count) (count : length (between 0 r.count r.arcs) ≡ r.count)
+    (g : Quadrant → Quadrant) (made : List Arc) (is : made ≡ map (redirected g) (between 0 n r.arcs)) where
   abbrev after : Record
-  after = record { states = r.states; count = r.count; arcs = put_mid 0 (r.count - 0) r.arcs made }
+  after = record { states = r.states; count = r.count; arcs = put_mid 0 (n - 0) r.arcs made }
 
   front : between 0 r.count after.arcs ≡ map (redirected g) (between 0 r.count r.arcs)
   front =
-      let long : length made ≡ r.count =
-      ap length is ∙ length-map (between 0 r.count r.arcs) (redirected g) ∙ length-between r.arcs 0 r.count (omega (arith, kept.few_arcs)) ∙ omega arith in
-      between-put_mid 0 _ r.arcs made r.count (omega arith) (omega arith) ∙ is
+      let all : made ≡ map (redirected g) (between 0 r.count r.arcs) = is ∙ ap (λ m. map (redirected g) (between 0 m r.arcs)) en in
+      let long : length made ≡ r.count = ap length all ∙ length-map (between 0 r.count r.arcs) (redirected g) ∙ count in
+      between-put_mid 0 _ r.arcs made r.count (omega arith) (omega arith) ∙ all
 
   pub moved_kept : Kept after
   moved_kept = record {

@@ -3,25 +3,29 @@ use Rattle.std.proofs.Common.{◌≡◌, ℕ, ◌+◌, ◌-◌, ◌≤◌, List,
 use borrow.Rule.Slice.PartMut.{put_mid}
 use Rattle.std.specs.List.{zip, between, AllByRecursion}
 use Rattle.std.proofs.ByRecursion.{All-map}
+use Rattle.std.proofs.lemmas.List.Edits.{length-between}
 use Rattle.std.proofs.lemmas.List.{places}
 use Rattle.std.proofs.lemmas.Slice.Zip.{firsts-zip}
-use Rattle.std.proofs.lemmas.Slice.{overwrites, between-put_mid, drop-put_mid, between_is}
+use Rattle.std.proofs.lemmas.Slice.{between-put_mid, drop-put_mid}
 use Rattle.picture.specs.Bodies.{Body, Edge, Sound, Within}
 use Rattle.picture.specs.Stored.{stored, Kept}
 use Rattle.picture.specs.declared.body.Arc.{Arc}
 use Rattle.picture.specs.declared.body.Record.{Record}
+use Rattle.picture.proofs.Storing.{between_below}
 use Rattle.compose.specs.Outcomes.{Made}
 use Rattle.compose.specs.declared.limits.Fault.{Fault}
 
--- a part below what was written
-pub between_below : {X : Type 0} (a n : ℕ) (xs ys : List X) (i j : ℕ) → j ≤ a → a ≤ length xs → between i j (put_mid a n xs ys) ≡ between i j xs
-between_below a n xs ys i j h l = search (rules, overwrites, between_is)
-
-pub length_put_mid : {X : Type 0} (a n : ℕ) (xs ys : List X) → a + n ≤ length xs → length ys ≡ n → length (put_mid a n xs ys) ≡ length xs
+length_put_mid : {X : Type 0} (a n : ℕ) (xs ys : List X) → a + n ≤ length xs → length ys ≡ n → length (put_mid a n xs ys) ≡ length xs
 length_put_mid a n xs ys h l = search (rules, places)
 
+-- how long the part of the last weights is when the first weights are written
+pub lasts_long : {X : Type 0} (n : ℕ) (out xs : List X) → length out ≡ 640 → n ≤ 64 → length xs ≡ n → length (between 64 (64 + n) (put_mid 0 (n - 0) out xs)) ≡ n
+lasts_long n out xs l h lx =
+    let long = length_put_mid 0 (n - 0) out xs (omega arith) (omega arith) in
+    length-between (put_mid 0 (n - 0) out xs) 64 (64 + n) (omega arith) ∙ omega arith
+
 -- the body that is stored once first, last and arc weights are written
-pub stored_is : {W : Type 0} (b : Body W) (r : Record) (out xs ys ws : List W) → length out ≡ 640 → r.states ≤ 64 → r.count ≤ 512
+stored_is : {W : Type 0} (b : Body W) (r : Record) (out xs ys ws : List W) → length out ≡ 640 → r.states ≤ 64 → r.count ≤ 512
     → length xs ≡ r.states → length ys ≡ r.states → length ws ≡ r.count
     → r.states ≡ b.states → xs ≡ b.first → ys ≡ b.last → zip (between 0 r.count r.arcs) ws ≡ b.arcs
     → stored r (put_mid 128 (128 + r.count - 128) (put_mid 64 (64 + r.states - 64) (put_mid 0 (r.states - 0) out xs) ys) ws) ≡ b

@@ -1,10 +1,11 @@
 -- Arcs beside their weights.
-use Rattle.std.proofs.Common.{◌≡◌, ◌+◌, min, List, [], ◌∷◌, ◌++◌, map, length, refl, ap, ◌∙◌, ap₂, arith}
+use Rattle.std.proofs.Common.{◌≡◌, ◌+◌, min, List, [], ◌∷◌, ◌++◌, map, length, sym, refl, ap, ◌∙◌, ap₂, arith}
 use Rattle.std.specs.List.{zip, between}
 use Rattle.std.proofs.lemmas.List.Edits.{length-between}
 use Rattle.std.proofs.lemmas.Slice.Zip.{length-zip}
-use Rattle.picture.specs.Stored.{stored, Kept}
-use Rattle.picture.specs.declared.body.Record.{Record}
+use Rattle.picture.specs.Lent.{lent, arcs_of}
+use Rattle.picture.specs.declared.body.Arc.{Arc}
+use Rattle.picture.specs.declared.stored.Stored.{Stored}
 
 pub zipped_append : {A B : Type 0} (xs us : List A) (ys vs : List B) → length xs ≡ length ys → zip (xs ++ us) (ys ++ vs) ≡ zip xs ys ++ zip us vs
 zipped_append [] us [] vs l = refl
@@ -17,13 +18,14 @@ zipped_map f [] ys = refl
 zipped_map f (x ∷ xs) [] = refl
 zipped_map f (x ∷ xs) (y ∷ ys) = ap (λ zs. (f x, y) ∷ zs) (zipped_map f xs ys)
 
-module _ {W : Type 0} (r : Record) (mem : List W) (kept : Kept r) (room : length mem ≡ 640) (full : length r.arcs ≡ 512) where
-  pub arcs_long : length (between 0 r.count r.arcs) ≡ r.count
-  arcs_long = length-between r.arcs 0 r.count (omega (arith, kept.few_arcs)) ∙ omega arith
+-- a body in memory has an arc weight for each arc that its record counts
+pub weights_long : {W : Type 0} (s : Stored W) → length (between 128 (128 + s.record.now.count) s.weights.now) ≡ s.record.now.count
+weights_long s = length-between s.weights.now 128 (128 + s.record.now.count) (omega (arith, s.kept.few_arcs, s.room)) ∙ omega arith
 
-  pub weights_long : length (between 128 (128 + r.count) mem) ≡ r.count
-  weights_long = length-between mem 128 (128 + r.count) (omega (arith, kept.few_arcs)) ∙ omega arith
+-- and as many arcs with their weights
+pub lent_count : {W : Type 0} (s : Stored W) (xs : List Arc) → xs ≡ arcs_of s → length xs ≡ s.record.now.count → length (lent s).arcs ≡ length xs
+lent_count s xs is count =
+    length-zip (arcs_of s) (between 128 (128 + s.record.now.count) s.weights.now) ∙ ap₂ min (sym (ap length is)) (weights_long s) ∙ omega arith
 
-  -- a stored body has as many arcs as its record counts
-  pub stored_count : length (stored r mem).arcs ≡ r.count
-  stored_count = length-zip (between 0 r.count r.arcs) (between 128 (128 + r.count) mem) ∙ ap₂ min arcs_long weights_long ∙ omega arith
+pub lent_arcs : {W : Type 0} (s : Stored W) (xs : List Arc) (ws : List W) → xs ≡ arcs_of s → zip (arcs_of s) ws ≡ (lent s).arcs → zip xs ws ≡ (lent s).arcs
+lent_arcs s xs ws is are = ap (λ zs. zip zs ws) is ∙ are

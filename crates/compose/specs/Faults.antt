@@ -1,5 +1,5 @@
 -- When an operation is refused, and why.
-use Rattle.std.specs.Prelude.{ℕ, cond, length, Some, None, Option, nat_lt}
+use Rattle.std.specs.Prelude.{ℕ, cond, List, length, Some, None, Option, nat_lt, codes}
 use Rattle.weight.specs.Kinds.{Kind}
 use Rattle.picture.specs.Bodies.{Body}
 use Rattle.compose.specs.declared.limits.Fault.{Fault}
@@ -10,6 +10,12 @@ abbrev pub number : Fault → ℕ
 number NoExchange = 12
 number ManyStates = 13
 number ManyArcs = 14
+
+-- the text of each fault
+abbrev pub text : Fault → List ℕ
+text NoExchange = codes "the product of two weights may depend on their order"
+text ManyStates = codes "too many states"
+text ManyArcs = codes "too many arcs"
 
 -- at most 64 states, and at most 512 arcs; states are looked at first
 abbrev pub excess : ℕ → ℕ → Option Fault

@@ -2,15 +2,16 @@
 #![tactic(auto)]
 
 mod digits;
-mod layout;
 mod limits;
 mod lists;
+mod mirrors;
 mod sums;
+mod turns;
 mod zooms;
 
-pub use digits::{mirror, turn};
-pub use layout::{LASTS, WEIGHTS};
-pub use limits::{Fault, over_limit, product_fault};
+pub use limits::{Fault, check_limits, check_product};
 pub use lists::{join, raise};
+pub use mirrors::mirror;
 pub use sums::add;
+pub use turns::turn;
 pub use zooms::zoom;

@@ -1,11 +1,14 @@
-ghost use Rattle.std.specs.Prelude.{◌≡◌};
-ghost use Rattle.compose.specs.Faults.{number, excess, product_excess};
+ghost use Rattle.std.specs.Prelude.{◌≡◌, Some};
+ghost use Rattle.std.specs.Result.{result_err};
+ghost use Rattle.compose.specs.Faults.{number, text, excess, product_excess};
 
 use picture::{MAX_ARCS, MAX_STATES};
+use std::error::Error;
+use std::fmt;
 use weight::Weight;
 
 /// Why an operation is refused.
-#[derive(Clone, Copy)]
+#[derive(Clone, Copy, Debug, PartialEq, Eq)]
 pub enum Fault {
     /// The product of two weights of the kind may depend on their order.
     NoExchange,
@@ -17,6 +20,7 @@ pub enum Fault {
 
 impl Fault {
     /// The refusal's number.
+    // A refusal is more than its number, and no number makes one: a method, and no conversion.
     pub fn number(self) -> u8
         ensures { result ≡ number self }
     {
@@ -28,25 +32,40 @@ impl Fault {
     }
 }
 
-/// Which limit a body of so many states and arcs passes.
-pub fn over_limit(states: usize, arcs: usize) -> Option<Fault>
-    ensures { result ≡ excess states arcs }
-{
-    if states > MAX_STATES {
-        return Some(Fault::ManyStates);
+// By hand: what a derive of `thiserror` writes promises nothing of the text.
+impl fmt::Display for Fault {
+    ghost output = { λ f. Some (text f) };
+
+    fn fmt<W: fmt::Write>(&self, f: &mut fmt::Formatter<W>) -> fmt::Result {
+        f.write_str(match self {
+            Fault::NoExchange => "the product of two weights may depend on their order",
+            Fault::ManyStates => "too many states",
+            Fault::ManyArcs => "too many arcs",
+        })
     }
-    if arcs > MAX_ARCS {
-        return Some(Fault::ManyArcs);
-    }
-    None
 }
 
-/// Why a product of so many states and arcs is refused: on a kind that does not exchange every product is.
-pub fn product_fault<W: Weight>(states: usize, arcs: usize) -> Option<Fault>
-    ensures { result ≡ product_excess W.kind states arcs }
+impl Error for Fault {}
+
+/// Checks that a body of so many states and arcs passes no limit; states are looked at first.
+pub fn check_limits(states: usize, arcs: usize) -> Result<(), Fault>
+    ensures { result_err result ≡ excess states arcs }
+{
+    if states > MAX_STATES {
+        return Err(Fault::ManyStates);
+    }
+    if arcs > MAX_ARCS {
+        return Err(Fault::ManyArcs);
+    }
+    Ok(())
+}
+
+/// Checks that a product of so many states and arcs is accepted: on a kind that does not exchange none is.
+pub fn check_product<W: Weight>(states: usize, arcs: usize) -> Result<(), Fault>
+    ensures { result_err result ≡ product_excess W.kind states arcs }
 {
     if !W::exchanges() {
-        return Some(Fault::NoExchange);
+        return Err(Fault::NoExchange);
     }
-    over_limit(states, arcs)
+    check_limits(states, arcs)
 }

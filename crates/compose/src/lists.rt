@@ -10,9 +10,8 @@ pub fn join<T: Copy>(front: &[T], back: &[T], out: &mut [T])
     requires { length out.old ≡ length front.now + length back.now }
     ensures { out.new ≡ front.now ++ back.now }
 {
-    let start = &mut out[0..front.len()];
+    let (start, end) = out.split_at_mut(front.len());
     start.copy_from_slice(front);
-    let end = &mut out[front.len()..front.len() + back.len()];
     end.copy_from_slice(back);
 }
 
@@ -22,12 +21,9 @@ pub fn raise(arcs: &[Arc], by: u8, out: &mut [Arc])
     requires small { AllByRecursion (λ a. Within 256 (raised_arc by a)) arcs.now }
     ensures { out.new ≡ map (raised_arc by) arcs.now }
 {
-    for i in 0..arcs.len() {
-        let arc = arcs[i];
-        out[i] = Arc {
-            from: by + arc.from,
-            to: by + arc.to,
-            quadrant: arc.quadrant,
-        };
+    out.copy_from_slice(arcs);
+    for arc in out {
+        arc.from += by;
+        arc.to += by;
     }
 }

@@ -1,43 +1,49 @@
 -- Four parts one after the other.
-use Rattle.std.proofs.Common.{◌≡◌, ℕ, ◌+◌, List, [], ◌∷◌, ◌++◌, map, length, sym, refl, ap, ◌∙◌, ap₂, arith}
+use Rattle.std.proofs.Common.{◌≡◌, ◌≤◌, ◌-◌, ℕ, List, arith, get_or, take, drop, ◌+◌, [], ◌∷◌, ◌++◌, map, length, sym, refl, ap, ◌∙◌, ap₂}
+use Rattle.std.specs.List.{zip}
+use Rattle.compose.proofs.Zipped.{zipped_append}
 use Rattle.std.proofs.lemmas.List.FromFn.{length-map-range_with_len}
-use Rattle.std.proofs.lemmas.List.{length-map, length-append, append_assoc, append-nil}
+use Rattle.std.proofs.lemmas.List.{take_all, length-map, length-append, append_assoc}
 use Rattle.weight.specs.Kinds.{Kind}
 use Rattle.picture.specs.Bodies.{Body, Sound}
-use Rattle.picture.specs.BodyOperations.{raised, entries, pieced_body}
-use Rattle.picture.specs.Operations.{four, whole_value, pieced_picture}
+use Rattle.picture.specs.BodyOperations.{Part, raised, entries, pieced_arcs}
+use Rattle.picture.specs.Operations.{four, pieced_picture}
 use Rattle.picture.specs.Pictures.{picture}
 use Rattle.picture.specs.Quadrants.{Address}
-use Rattle.picture.specs.Stored.{stored, Kept}
-use Rattle.picture.specs.declared.body.Record.{Record}
+use Rattle.picture.specs.declared.body.Arc.{Arc}
 use Rattle.picture.specs.declared.quadrant.Quadrant.{Quadrant}
 use Rattle.picture.specs.declared.quadrant.Quadrant.TheVariants.{UpperLeft, UpperRight, LowerLeft, LowerRight}
-use Rattle.picture.proofs.Storing.{stored_sound}
-use Rattle.compose.proofs.Zipped.{stored_count}
-use Rattle.piece.specs.Parts.{part_arcs, four_stored}
+use Rattle.picture.specs.declared.stored.Stored.{Stored}
+use Rattle.picture.proofs.Storing.{lent_sound}
+use Rattle.piece.specs.Parts.{part_arcs, part_size, four_stored}
+
+-- a first element and the others
+pub head_rest : {X : Type 0} (xs : List X) (x : X) → 1 ≤ length xs → x ≡ get_or xs 0 x → xs ≡ x ∷ take (length xs - 1) (drop 1 xs)
+head_rest [] x h e = absurd (omega arith)
+head_rest (y ∷ ys) x h e =
+    let long : length ys ≡ length (y ∷ ys) - 1 = omega arith in
+    ap₂ ◌∷◌ (sym e) (sym (take_all (length ys) ys (omega arith)) ∙ ap (λ n. take n ys) long)
+
+-- the arcs of a part before those of the others
+module _ {W : Type 0} (k : Kind W) (s : ℕ) (p : Part W) (rest : List (Part W)) where
+  pub arcs_long : length (pieced_arcs k s (p ∷ rest)) ≡ part_size p.1 + length (pieced_arcs k (s + p.1.states) rest)
+  arcs_long =
+      length-append (entries k s p) (map (raised s) p.1.arcs ++ pieced_arcs k (s + p.1.states) rest)
+      ∙ ap₂ ◌+◌ (length-map-range_with_len _ 0 p.1.states) (length-append (map (raised s) p.1.arcs) (pieced_arcs k (s + p.1.states) rest) ∙ ap (λ n. n + length (pieced_arcs k (s + p.1.states) rest)) (length-map p.1.arcs (raised s)))
+      ∙ omega arith
+
+  pub arcs_more : (xs us : List Arc) (ys vs : List W) → length xs ≡ length ys → zip xs ys ≡ part_arcs k s p.0 p.1 → zip us vs ≡ pieced_arcs k (s + p.1.states) rest
+      → zip (xs ++ us) (ys ++ vs) ≡ pieced_arcs k s (p ∷ rest)
+  arcs_more xs us ys vs long one more =
+      zipped_append xs us ys vs long ∙ ap₂ ◌++◌ one more ∙ append_assoc (entries k s p) (map (raised s) p.1.arcs) (pieced_arcs k (s + p.1.states) rest)
+
+-- how many arcs four parts have
+pub four_long : {W : Type 0} (k : Kind W) (p q r t : Part W) → length (pieced_arcs k 1 (p ∷ q ∷ r ∷ t ∷ [])) ≡ part_size p.1 + part_size q.1 + (part_size r.1 + part_size t.1)
+four_long k p q r t =
+    let s = 1 + p.1.states + q.1.states in
+    omega (arith, arcs_long k 1 p (q ∷ r ∷ t ∷ []), arcs_long k (1 + p.1.states) q (r ∷ t ∷ []), arcs_long k s r (t ∷ []), arcs_long k (s + r.1.states) t [])
 
 module _ {W : Type 0} (k : Kind W) (a b c d : Body W) where
-  pub four_arcs : (part_arcs k 1 UpperLeft a ++ part_arcs k (1 + a.states) UpperRight b)
-      ++ (part_arcs k (1 + a.states + b.states) LowerLeft c ++ part_arcs k (1 + a.states + b.states + c.states) LowerRight d)
-      ≡ (pieced_body k (four a b c d)).arcs
-  four_arcs = simp (append_assoc, append-nil)
-
-  pub four_lasts : whole_value k ∷ ((a.last ++ b.last) ++ (c.last ++ d.last)) ≡ (pieced_body k (four a b c d)).last
-  four_lasts = simp (append_assoc, append-nil)
-
-  part_long : (s : ℕ) (e : Quadrant) (x : Body W) → length (part_arcs k s e x) ≡ x.states + length x.arcs
-  part_long s e x = length-append (entries k s (e, x)) (map (raised s) x.arcs) ∙ ap₂ ◌+◌ (length-map-range_with_len _ 0 x.states) (length-map x.arcs (raised s))
-
-  pub four_long : length (pieced_body k (four a b c d)).arcs
-      ≡ a.states + length a.arcs + (b.states + length b.arcs) + (c.states + length c.arcs + (d.states + length d.arcs))
-  four_long =
-      ap length (sym four_arcs)
-      ∙ length-append (part_arcs k 1 UpperLeft a ++ part_arcs k (1 + a.states) UpperRight b) _
-      ∙ ap₂ ◌+◌
-      (length-append (part_arcs k 1 UpperLeft a) _ ∙ ap₂ ◌+◌ (part_long 1 UpperLeft a) (part_long (1 + a.states) UpperRight b))
-      (length-append (part_arcs k (1 + a.states + b.states) LowerLeft c) _
-      ∙ ap₂ ◌+◌ (part_long (1 + a.states + b.states) LowerLeft c) (part_long (1 + a.states + b.states + c.states) LowerRight d))
-
   -- the pictures of four bodies, by their quadrants
   pub four_pictures : (w : Address) → pieced_picture k (λ e. picture k (four a b c d e)) w ≡ pieced_picture k (four (picture k a) (picture k b) (picture k c) (picture k d)) w
   four_pictures [] = refl
@@ -46,16 +52,8 @@ module _ {W : Type 0} (k : Kind W) (a b c d : Body W) where
   four_pictures (LowerLeft ∷ w) = refl
   four_pictures (LowerRight ∷ w) = refl
 
-module _ {W : Type 0} (k : Kind W) (a : Record) (wa : List W) (b : Record) (wb : List W) (c : Record) (wc : List W) (d : Record) (wd : List W)
-    (ka : Kept a) (kb : Kept b) (kc : Kept c) (kd : Kept d) (ra : length wa ≡ 640) (rb : length wb ≡ 640) (rc : length wc ≡ 640) (rd : length wd ≡ 640) where
-  pub four_sound : (e : Quadrant) → Sound (four_stored a wa b wb c wc d wd e)
-  four_sound UpperLeft = stored_sound a wa ka ra
-  four_sound UpperRight = stored_sound b wb kb rb
-  four_sound LowerLeft = stored_sound c wc kc rc
-  four_sound LowerRight = stored_sound d wd kd rd
-
-  pub four_count : length a.arcs ≡ 512 → length b.arcs ≡ 512 → length c.arcs ≡ 512 → length d.arcs ≡ 512
-      → length (pieced_body k (four_stored a wa b wb c wc d wd)).arcs ≡ a.states + a.count + (b.states + b.count) + (c.states + c.count + (d.states + d.count))
-  four_count fa fb fc fd =
-      four_long k (stored a wa) (stored b wb) (stored c wc) (stored d wd)
-      ∙ omega (arith, stored_count a wa ka ra fa, stored_count b wb kb rb fb, stored_count c wc kc rc fc, stored_count d wd kd rd fd)
+pub four_sound : {W : Type 0} (a b c d : Stored W) (e : Quadrant) → Sound (four_stored a b c d e)
+four_sound a b c d UpperLeft = lent_sound a
+four_sound a b c d UpperRight = lent_sound b
+four_sound a b c d LowerLeft = lent_sound c
+four_sound a b c d LowerRight = lent_sound d

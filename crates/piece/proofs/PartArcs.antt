@@ -1,15 +1,13 @@
 -- The arcs of one part, beside their weights.
-use Rattle.std.proofs.Common.{◌≡◌, ℕ, ◌+◌, List, ◌++◌, map, length, sym, ap, ◌∙◌, ap₂, arith}
-use Rattle.std.specs.List.{zip, between, range_with_len}
+use Rattle.std.proofs.Common.{◌≡◌, ℕ, List, ◌++◌, map, length, sym, ap, ◌∙◌, ap₂, arith}
+use Rattle.std.specs.List.{zip, range_with_len}
 use Rattle.std.proofs.lemmas.List.FromFn.{length-map-range_with_len, get_or-map-range_with_len, fill_by_all}
-use Rattle.std.proofs.lemmas.List.Edits.{length-between}
 use Rattle.std.proofs.lemmas.Slice.Zip.{get_or-zip, length-zip}
 use Rattle.weight.specs.Kinds.{Kind}
-use Rattle.picture.specs.BodyOperations.{raised_arc}
+use Rattle.picture.specs.Bodies.{Body}
+use Rattle.picture.specs.BodyOperations.{raised_arc, raised}
 use Rattle.picture.specs.Steps.{at_state}
-use Rattle.picture.specs.Stored.{stored, Kept}
 use Rattle.picture.specs.declared.body.Arc.{Arc}
-use Rattle.picture.specs.declared.body.Record.{Record}
 use Rattle.picture.specs.declared.quadrant.Quadrant.{Quadrant}
 use Rattle.compose.proofs.Zipped.{zipped_append, zipped_map}
 use Rattle.piece.specs.Parts.{entry_arc, part_arcs}
@@ -24,13 +22,9 @@ module _ {W : Type 0} (k : Kind W) (s : ℕ) (d : Quadrant) where
       get_or-zip (map (entry_arc s d) (range_with_len 0 n)) ws q (entry_arc s d 0, k.zero) (omega arith) (omega arith)
       ∙ ap (λ a. (a, at_state k ws q)) (get_or-map-range_with_len (entry_arc s d) 0 n q q (entry_arc s d 0) h (omega arith)))
 
-  pub part_arcs_are : (r : Record) (mem : List W) (es os : List Arc) (ws : List W) → Kept r → length mem ≡ 640
-      → es ≡ map (entry_arc s d) (range_with_len 0 r.states) → os ≡ map (raised_arc s) (between 0 r.count r.arcs) → ws ≡ between 0 r.states mem ++ between 128 (128 + r.count) mem
-      → zip (es ++ os) ws ≡ part_arcs k s d (stored r mem)
-  part_arcs_are r mem es os ws kept room ee eo ew =
-      let few = kept.few_states in
-      let long : length (between 0 r.states mem) ≡ r.states = length-between mem 0 r.states (omega arith) ∙ omega arith in
+  pub part_arcs_are : (b : Body W) (xs es os : List Arc) (vs ws : List W) → length b.first ≡ b.states → zip xs vs ≡ b.arcs
+      → es ≡ map (entry_arc s d) (range_with_len 0 b.states) → os ≡ map (raised_arc s) xs → ws ≡ b.first ++ vs → zip (es ++ os) ws ≡ part_arcs k s d b
+  part_arcs_are b xs es os vs ws long are ee eo ew =
       ap₂ zip (ap₂ ◌++◌ ee eo) ew
-      ∙ zipped_append (map (entry_arc s d) (range_with_len 0 r.states)) (map (raised_arc s) (between 0 r.count r.arcs)) (between 0 r.states mem) (between 128 (128 + r.count) mem)
-      (length-map-range_with_len (entry_arc s d) 0 r.states ∙ sym long)
-      ∙ ap₂ ◌++◌ (zipped_entries r.states (between 0 r.states mem) long) (zipped_map (raised_arc s) (between 0 r.count r.arcs) (between 128 (128 + r.count) mem))
+      ∙ zipped_append (map (entry_arc s d) (range_with_len 0 b.states)) (map (raised_arc s) xs) b.first vs (length-map-range_with_len (entry_arc s d) 0 b.states ∙ sym long)
+      ∙ ap₂ ◌++◌ (zipped_entries b.states b.first long) (zipped_map (raised_arc s) xs vs ∙ ap (map (raised s)) are)

@@ -2,6 +2,7 @@
 #![tactic(auto)]
 
 mod entries;
+mod parts;
 mod piecing;
 mod rows;
 mod whole;

@@ -1,80 +1,65 @@
 ghost use Rattle.std.specs.Prelude.{◌≡◌, length, IfOk};
 ghost use Rattle.picture.specs.BodyOperations.{pieced_body};
+ghost use Rattle.picture.specs.Lent.{lent};
 ghost use Rattle.picture.specs.Operations.{four, pieced_picture};
 ghost use Rattle.picture.specs.OperationStatements.{Shows};
 ghost use Rattle.picture.specs.Pictures.{picture};
-ghost use Rattle.picture.specs.Stored.{stored, Kept};
+ghost use Rattle.picture.specs.Stored.{stored};
 ghost use Rattle.compose.specs.Faults.{over_limit};
 ghost use Rattle.compose.specs.Outcomes.{Outcome};
 ghost use Rattle.piece.specs.Parts.{four_stored};
 
-use crate::entries::enter_four;
+use crate::entries::enter_all;
+use crate::parts::{Part, part_size};
 use crate::rows::{write_firsts, write_lasts};
-use compose::{Fault, LASTS, WEIGHTS, over_limit};
-use picture::Record;
+use compose::{Fault, check_limits};
+use picture::{ARC_WEIGHTS, LAST_WEIGHTS, Quadrant, Record, Stored};
 use weight::Weight;
 
 /// The piecing of four bodies, for the quadrants 0 to 3.
 pub fn piece<W: Weight>(
-    a: &Record,
-    wa: &[W],
-    b: &Record,
-    wb: &[W],
-    c: &Record,
-    wc: &[W],
-    d: &Record,
-    wd: &[W],
+    a: Stored<'_, W>,
+    b: Stored<'_, W>,
+    c: Stored<'_, W>,
+    d: Stored<'_, W>,
     out: &mut [W],
 ) -> Result<Record, Fault>
-    requires kept_a { Kept a.now }
-    requires kept_b { Kept b.now }
-    requires kept_c { Kept c.now }
-    requires kept_d { Kept d.now }
-    requires room_a { length wa.now ≡ 640 }
-    requires room_b { length wb.now ≡ 640 }
-    requires room_c { length wc.now ≡ 640 }
-    requires room_d { length wd.now ≡ 640 }
     requires room { length out.old ≡ 640 }
-    ensures body { Outcome (over_limit (pieced_body W.kind (four_stored a.now wa.now b.now wb.now c.now wc.now d.now wd.now))) (pieced_body W.kind (four_stored a.now wa.now b.now wb.now c.now wc.now d.now wd.now)) out.old out.new result }
-    ensures shows { IfOk result (λ p. Shows W.kind (stored p out.new) (pieced_picture W.kind (four (picture W.kind (stored a.now wa.now)) (picture W.kind (stored b.now wb.now)) (picture W.kind (stored c.now wc.now)) (picture W.kind (stored d.now wd.now))))) }
+    ensures body { Outcome (over_limit (pieced_body W.kind (four_stored a.entry b.entry c.entry d.entry))) (pieced_body W.kind (four_stored a.entry b.entry c.entry d.entry)) out.old out.new result }
+    ensures shows { IfOk result (λ p. Shows W.kind (stored p out.new) (pieced_picture W.kind (four (picture W.kind (lent a.entry)) (picture W.kind (lent b.entry)) (picture W.kind (lent c.entry)) (picture W.kind (lent d.entry))))) }
 {
-    let na = a.states as usize;
-    let nb = b.states as usize;
-    let nc = c.states as usize;
-    let nd = d.states as usize;
-    let n = 1 + (na + nb + (nc + nd));
-    let m = na
-        + a.count as usize
-        + (nb + b.count as usize)
-        + (nc + c.count as usize + (nd + d.count as usize));
-    if let Some(fault) = over_limit(n, m) {
-        return Err(fault);
-    }
+    let parts = [
+        Part {
+            quadrant: Quadrant::UpperLeft,
+            body: a,
+        },
+        Part {
+            quadrant: Quadrant::UpperRight,
+            body: b,
+        },
+        Part {
+            quadrant: Quadrant::LowerLeft,
+            body: c,
+        },
+        Part {
+            quadrant: Quadrant::LowerRight,
+            body: d,
+        },
+    ];
+    let n = 1 + (a.states() + b.states() + (c.states() + d.states()));
+    let m = part_size(a) + part_size(b) + (part_size(c) + part_size(d));
+    check_limits(n, m)?;
     write_firsts(&mut out[0..n]);
-    write_lasts(
-        &wa[LASTS..LASTS + na],
-        &wb[LASTS..LASTS + nb],
-        &wc[LASTS..LASTS + nc],
-        &wd[LASTS..LASTS + nd],
-        &mut out[LASTS..LASTS + n],
+    write_lasts(&parts, &mut out[LAST_WEIGHTS..LAST_WEIGHTS + n]);
+    let mut record = *a.record;
+    let all = &mut record.arcs[..];
+    enter_all(
+        &parts,
+        1,
+        &mut all[0..m],
+        &mut out[ARC_WEIGHTS..ARC_WEIGHTS + m],
     );
-    let mut arcs = a.arcs;
-    let written = &mut arcs[..];
-    enter_four(
-        a,
-        wa,
-        b,
-        wb,
-        c,
-        wc,
-        d,
-        wd,
-        &mut written[0..m],
-        &mut out[WEIGHTS..WEIGHTS + m],
-    );
-    Ok(Record {
-        states: n as u8,
-        count: m as u16,
-        arcs,
-    })
+    record.states = n as u8;
+    record.count = m as u16;
+    Ok(record)
 }

@@ -1,17 +1,22 @@
 -- The arcs of a product.
-use Rattle.std.proofs.Common.{◌≡◌, ◌+◌, List, length, sym, ◌∙◌}
-use Rattle.std.specs.List.{between}
+use Rattle.std.proofs.Common.{◌≡◌, ℕ, ◌*◌, List, length, sym, ap, ◌∙◌, ap₂}
 use Rattle.weight.specs.Kinds.{Kind}
 use Rattle.picture.specs.BodyOperations.{product_body}
-use Rattle.picture.specs.Stored.{stored, Kept}
-use Rattle.picture.specs.declared.body.Record.{Record}
+use Rattle.picture.specs.Lent.{lent, arcs_of}
+use Rattle.picture.specs.declared.body.Arc.{Arc}
+use Rattle.picture.specs.declared.stored.Stored.{Stored}
 use Rattle.product.specs.Counts.{matches}
 use Rattle.product.proofs.Counting.{product_length}
-use Rattle.compose.proofs.Zipped.{arcs_long, weights_long}
+use Rattle.compose.proofs.Zipped.{weights_long}
+use Rattle.compose.specs.Faults.{product_excess, product_fault}
 
-module _ {W : Type 0} (k : Kind W) (a b : Record) (front back : List W) (ka : Kept a) (kb : Kept b) (ra : length front ≡ 640) (rb : length back ≡ 640)
-    (fa : length a.arcs ≡ 512) (fb : length b.arcs ≡ 512) where
-  pub product_count : length (product_body k (stored a front) (stored b back)).arcs ≡ matches (between 0 a.count a.arcs) (between 0 b.count b.arcs)
+module _ {W : Type 0} (k : Kind W) (a b : Stored W) (xs ys : List Arc) (ex : xs ≡ arcs_of a) (cx : length xs ≡ a.record.now.count) (ey : ys ≡ arcs_of b) (cy : length ys ≡ b.record.now.count) where
+  pub product_count : length (product_body k (lent a) (lent b)).arcs ≡ matches xs ys
   product_count =
-      product_length k b.states (between 0 a.count a.arcs) (between 0 b.count b.arcs) (between 128 (128 + a.count) front) (between 128 (128 + b.count) back)
-      (arcs_long a front ka ra fa ∙ sym (weights_long a front ka ra fa)) (arcs_long b back kb rb fb ∙ sym (weights_long b back kb rb fb))
+      product_length k (lent b).states (arcs_of a) (arcs_of b) _ _ (sym (ap length ex) ∙ cx ∙ sym (weights_long a)) (sym (ap length ey) ∙ cy ∙ sym (weights_long b))
+      ∙ ap₂ matches (sym ex) (sym ey)
+
+  -- why the product is refused
+  pub product_fault_is : (n m count : ℕ) → n ≡ (lent a).states → m ≡ (lent b).states → count ≡ matches xs ys
+      → product_fault k (product_body k (lent a) (lent b)) ≡ product_excess k (n * m) count
+  product_fault_is n m count en em ec = ap₂ (product_excess k) (ap₂ ◌*◌ (sym en) (sym em)) (product_count ∙ sym ec)

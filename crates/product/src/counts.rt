@@ -8,13 +8,7 @@ fn count(arcs: &[Arc], quadrant: Quadrant) -> usize
     ensures number { result ≡ tally quadrant arcs.now }
     ensures few { result ≤ length arcs.now }
 {
-    let mut n: usize = 0;
-    for arc in arcs {
-        if quadrant.is(arc.quadrant) {
-            n += 1;
-        }
-    }
-    n
+    arcs.iter().filter(|arc| arc.quadrant == quadrant).count()
 }
 
 /// How many pairs of arcs have one digit.
@@ -23,6 +17,7 @@ pub(crate) fn count_matches(arcs: &[Arc], others: &[Arc]) -> usize
     requires right { length others.now ≤ 512 }
     ensures { result ≡ matches arcs.now others.now }
 {
+    // Four terms: a loop would first write the four quadrants into an array, and then add by hand.
     count(arcs, Quadrant::UpperLeft) * count(others, Quadrant::UpperLeft)
         + count(arcs, Quadrant::UpperRight) * count(others, Quadrant::UpperRight)
         + count(arcs, Quadrant::LowerLeft) * count(others, Quadrant::LowerLeft)

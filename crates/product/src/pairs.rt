@@ -1,10 +1,11 @@
-ghost use Rattle.std.specs.Prelude.{◌≡◌, ◌+◌, ◌*◌, ◌≤◌, ◌++◌, length, take};
+ghost use Rattle.std.specs.Prelude.{◌≡◌, ◌+◌, ◌*◌, ◌<◌, ◌≤◌, [], ◌∷◌, length};
 ghost use Rattle.std.specs.List.{zip, flat_map, AllByRecursion};
 ghost use Rattle.picture.specs.Bodies.{Within};
-ghost use Rattle.picture.specs.BodyOperations.{paired, arc_pair, arc_pairs};
+ghost use Rattle.picture.specs.BodyOperations.{paired, arc_pair, product_body};
+ghost use Rattle.picture.specs.Lent.{lent};
 ghost use Rattle.product.specs.Ends.{pair_ends};
 
-use picture::Arc;
+use picture::{Arc, Stored};
 use weight::Weight;
 
 /// Each of `xs` times each of `ys`.
@@ -12,60 +13,76 @@ pub(crate) fn pair_weights<W: Weight>(xs: &[W], ys: &[W], out: &mut [W])
     requires { length out.old ≡ length xs.now * length ys.now }
     ensures { out.new ≡ paired W.kind.times xs.now ys.now }
 {
-    for i in 0..out.len() {
-        out[i] = xs[i / ys.len()].times(ys[i % ys.len()]);
+    // By `/` and `%`: `ys` may be empty, and `chunks_exact_mut` stops the program at chunks of no weights.
+    for (i, product) in out.iter_mut().enumerate() {
+        *product = xs[i / ys.len()].times(ys[i % ys.len()]);
     }
 }
 
-/// Appends at `start` the arcs of one arc with each of `others`, and answers how many arcs there are then.
-fn pair_arc<W: Weight>(
-    arc: Arc,
-    weight: W,
-    others: &[Arc],
-    factors: &[W],
-    states: u8,
-    start: usize,
-    out: &mut [Arc],
-    products: &mut [W],
-) -> usize
-    requires long { length out.old ≡ length products.old }
-    requires room { start + length (flat_map (arc_pair W.kind states (arc, weight)) (zip others.now factors.now)) ≤ length out.old }
-    requires small { AllByRecursion (λ e. Within 256 (pair_ends states arc e.0)) (zip others.now factors.now) }
-    ensures number { result ≡ start + length (flat_map (arc_pair W.kind states (arc, weight)) (zip others.now factors.now)) }
-    ensures arcs { zip (take result out.new) (take result products.new) ≡ zip (take start out.old) (take start products.old) ++ flat_map (arc_pair W.kind states (arc, weight)) (zip others.now factors.now) }
-{
-    let mut k = start;
-    for (other, factor) in others.iter().zip(factors) {
-        if arc.quadrant.is(other.quadrant) {
-            out[k] = Arc {
-                from: arc.from * states + other.from,
-                to: arc.to * states + other.to,
-                quadrant: arc.quadrant,
-            };
-            products[k] = weight.times(*factor);
-            k += 1;
+/// Arcs and their weights, written in place, and how many there are.
+#[derive(Drop)]
+struct Pairs<'a, W> {
+    // Lent slices and a count, and no `Vec`: the library has no heap.
+    arcs: &'a mut [Arc],
+    weights: &'a mut [W],
+    count: usize,
+    ghost both: { length arcs.now ≡ length weights.now },
+    ghost inside: { count ≤ length arcs.now },
+}
+
+impl<W: Weight> Pairs<'_, W> {
+    ghost use Rattle.product.specs.Inner.{Appended};
+
+    /// Appends an arc and its weight.
+    fn push(&mut self, arc: Arc, weight: W)
+        requires { self.old.count < length self.old.arcs.now }
+        ensures { Appended ((arc, weight) ∷ []) self.old self.new }
+    {
+        self.arcs[self.count] = arc;
+        self.weights[self.count] = weight;
+        self.count += 1;
+    }
+
+    /// Appends the arcs of one arc with each of `b`.
+    fn pair(&mut self, arc: Arc, weight: W, b: Stored<'_, W>)
+        requires room { self.old.count + length (flat_map (arc_pair W.kind (lent b).states (arc, weight)) (lent b).arcs) ≤ length self.old.arcs.now }
+        requires small { AllByRecursion (λ e. Within 256 (pair_ends (lent b).states arc e.0)) (lent b).arcs }
+        ensures { Appended (flat_map (arc_pair W.kind (lent b.entry).states (arc, weight)) (lent b.entry).arcs) self.old self.new }
+    {
+        let states = b.record.states;
+        for (other, factor) in b.arcs().iter().zip(b.arc_weights()) {
+            if arc.quadrant == other.quadrant {
+                self.push(
+                    Arc {
+                        from: arc.from * states + other.from,
+                        to: arc.to * states + other.to,
+                        quadrant: arc.quadrant,
+                    },
+                    weight.times(*factor),
+                );
+            }
         }
     }
-    k
 }
 
-/// The arcs of each arc with each of `others`.
+/// The arcs of each arc of `a` with each of `b`.
 pub(crate) fn pair_arcs<W: Weight>(
-    arcs: &[Arc],
-    weights: &[W],
-    others: &[Arc],
-    factors: &[W],
-    states: u8,
+    a: Stored<'_, W>,
+    b: Stored<'_, W>,
     out: &mut [Arc],
     products: &mut [W],
 )
+    requires states { (lent a).states * (lent b).states ≤ 64 }
     requires long { length out.old ≡ length products.old }
-    requires room { length (arc_pairs W.kind states (zip arcs.now weights.now) (zip others.now factors.now)) ≡ length out.old }
-    requires small { AllByRecursion (λ e. AllByRecursion (λ f. Within 256 (pair_ends states e.0 f.0)) (zip others.now factors.now)) (zip arcs.now weights.now) }
-    ensures { zip out.new products.new ≡ arc_pairs W.kind states (zip arcs.now weights.now) (zip others.now factors.now) }
+    requires room { length (product_body W.kind (lent a) (lent b)).arcs ≡ length out.old }
+    ensures { zip out.new products.new ≡ (product_body W.kind (lent a.entry) (lent b.entry)).arcs }
 {
-    let mut k = 0;
-    for (arc, weight) in arcs.iter().zip(weights) {
-        k = pair_arc(*arc, *weight, others, factors, states, k, out, products);
+    let mut pairs = Pairs {
+        arcs: out,
+        weights: products,
+        count: 0,
+    };
+    for (arc, weight) in a.arcs().iter().zip(a.arc_weights()) {
+        pairs.pair(*arc, *weight, b);
     }
 }

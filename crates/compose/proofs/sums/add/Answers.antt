@@ -1,61 +1,70 @@
-use Rattle.std.proofs.Common.{◌≡◌, ◌+◌, length, sym, refl, ap, ◌∙◌, arith, rules}
+use Rattle.std.proofs.Common.{◌≡◌, ◌+◌, ◌++◌, map, length, sym, refl, ap, ◌∙◌, ap₂, arith, rules}
 use Rattle.std.proofs.ByRecursion.{All-weaker}
+use Rattle.std.proofs.lemmas.List.{length-append, length-map}
+use Rattle.std.proofs.lemmas.Result.{err_from_is_err_and}
 use Rattle.picture.specs.Bodies.{Within}
-use Rattle.picture.specs.BodyOperations.{sum_body}
+use Rattle.picture.specs.BodyOperations.{sum_body, raised_arc}
+use Rattle.picture.specs.Lent.{lent}
 use Rattle.picture.specs.Pictures.{picture}
-use Rattle.picture.specs.Stored.{stored}
-use Rattle.picture.proofs.Storing.{stored_sound}
+use Rattle.picture.proofs.Storing.{lent_sound}
 use Rattle.picture.proofs.SumPictures.{sum_sound, sum_shows}
-use Rattle.compose.specs.Faults.{excess}
-use Rattle.compose.proofs.Adding.{sum_count, sum_arcs, sum_weights_long, arcs_after, both_long}
+use Rattle.compose.proofs.Adding.{sum_excess, sum_arcs, arcs_after}
 use Rattle.compose.proofs.Bounds.{within_limits}
-use Rattle.compose.proofs.Written.{body_made}
+use Rattle.compose.proofs.Written.{body_made, lasts_long}
+use Rattle.compose.proofs.Zipped.{lent_arcs}
 use Rattle.compose.proofs.sums.add.Goals as goal
 
-pub raise-requires : goal.raise-requires
-raise-requires g c =
-    let a = c.args.a.now in
-    let b = c.args.b.now in
-    let fits = within_limits (a.states + b.states) (a.count + b.count) (sym c.over_limit.ensures ∙ c.in_default.is) in
-    record {
-      long = search rules;
-      small = All-weaker (Within b.states) _ (λ x h. (omega (arith, h.0, fits.0), omega (arith, h.1, fits.0))) _ c.requires.kept_b.ends;
-    }
+pub returns-in_err-check_limits-clause-body : goal.returns-in_err-check_limits-clause-body
+returns-in_err-check_limits-clause-body g c =
+    let p = err_from_is_err_and c.from_residual.result c.from_residual.ensures.1 in
+    let own = c.arcs-own.ensures in
+    let others = c.arcs-others.ensures in
+    let passed = sum_excess c.args.a c.args.b _ _ _ _ c.states.ensures c.states-2.ensures own.arcs own.count others.arcs others.count in
+    rw (p.1, p.2) (record { because = passed ∙ sym c.in_err-check_limits.ensures; unchanged = refl })
 
-pub returns-in-Some : goal.returns-in-Some
-returns-in-Some g c =
-    let a = c.args.a.now in
-    let b = c.args.b.now in
-    let fa : length a.arcs ≡ 512 = search rules in
-    let fb : length b.arcs ≡ 512 = search rules in
-    let count = sum_count a b c.args.front.now c.args.back.now c.requires.kept_a c.requires.kept_b c.requires.room_a c.requires.room_b fa fb in
-    record {
-      body = record { because = ap (excess (a.states + b.states)) count ∙ sym c.over_limit.ensures ∙ c.in-Some.is; unchanged = refl };
-      shows = tt;
-    }
+pub join-requires-2 : goal.join-requires-2
+join-requires-2 g c =
+    let n = c.states.result + c.states-2.result in
+    let fits = within_limits n (length c.arcs-own.result.now + length c.arcs-others.result.now) (sym c.in_ok-check_limits.ensures) in
+    let one : length c.join.new.out ≡ n = search rules in
+    lasts_long n c.args.out.now c.join.new.out c.requires.room fits.0 one ∙ omega arith
+
+pub raise-requires-clause-small : goal.raise-requires-clause-small
+raise-requires-clause-small g c =
+    let fits = within_limits (c.states.result + c.states-2.result) (length c.arcs-own.result.now + length c.arcs-others.result.now) (sym c.in_ok-check_limits.ensures) in
+    let na : c.states.result ≡ c.args.a.record.now.states = c.states.ensures in
+    let nb : c.states-2.result ≡ c.args.b.record.now.states = c.states-2.ensures in
+    rw c.arcs-others.ensures.arcs (All-weaker (Within c.args.b.record.now.states) _ (λ x h. (omega (arith, h.0, fits.0), omega (arith, h.1, fits.0))) _ c.args.b.kept.ends)
 
 pub returns : goal.returns
 returns g c =
     let k = g.W.Weight.kind in
-    let a = c.args.a.now in
-    let b = c.args.b.now in
-    let front = c.args.front.now in
-    let back = c.args.back.now in
-    let fa : length a.arcs ≡ 512 = search rules in
-    let fb : length b.arcs ≡ 512 = search rules in
-    let ok = sym c.over_limit.ensures ∙ c.in_default.is in
-    let fits = within_limits (a.states + b.states) (a.count + b.count) ok in
-    let sa = stored_sound a front c.requires.kept_a c.requires.room_a in
-    let sb = stored_sound b back c.requires.kept_b c.requires.room_b in
-    let count = sum_count a b front back c.requires.kept_a c.requires.kept_b c.requires.room_a c.requires.room_b fa fb in
-    let made = body_made _ (sum_body (stored a front) (stored b back)) _ _ c.args.out.now _ _ _
-    (ap (excess (a.states + b.states)) count ∙ ok) (sum_sound _ _ sa sb) c.requires.room refl fits.0 fits.1
-    (arcs_after a b front back c.requires.kept_a c.requires.kept_b c.requires.room_a c.requires.room_b fa fb _ c.raise.ensures fits.1)
-    (both_long a b front back c.requires.kept_a c.requires.kept_b c.requires.room_a c.requires.room_b fa fb)
-    (sum_weights_long a b front back c.requires.kept_a c.requires.kept_b c.requires.room_a c.requires.room_b fa fb _ c.join-3.ensures)
-    c.join.ensures c.join-2.ensures
-    (sum_arcs a b front back c.requires.kept_a c.requires.kept_b c.requires.room_a c.requires.room_b fa fb _ c.join-3.ensures) in
+    let a = lent c.args.a in
+    let b = lent c.args.b in
+    let sa = lent_sound c.args.a in
+    let sb = lent_sound c.args.b in
+    let own = c.arcs-own.ensures in
+    let others = c.arcs-others.ensures in
+    let xs = c.arcs-own.result.now in
+    let ys = c.arcs-others.result.now in
+    let ok = sym c.in_ok-check_limits.ensures in
+    let fits = within_limits (c.states.result + c.states-2.result) (length xs + length ys) ok in
+    let passed = sum_excess c.args.a c.args.b _ _ _ _ c.states.ensures c.states-2.ensures own.arcs own.count others.arcs others.count in
+    let tail : c.raise.new.out ≡ map (raised_arc a.states) ys = c.raise.ensures in
+    let tail_long : length c.raise.new.out ≡ length ys = ap length tail ∙ length-map ys (raised_arc a.states) in
+    let us : length c.arc_weights.result.now ≡ length xs = c.arc_weights.ensures.count ∙ sym (ap length own.arcs) in
+    let vs : length c.arc_weights-2.result.now ≡ length ys = c.arc_weights-2.ensures.count ∙ sym (ap length others.arcs) in
+    let ea = lent_arcs c.args.a xs c.arc_weights.result.now own.arcs c.arc_weights.ensures.arcs in
+    let eb = lent_arcs c.args.b ys c.arc_weights-2.result.now others.arcs c.arc_weights-2.ensures.arcs in
+    let made = body_made _ (sum_body a b) _ (xs ++ map (raised_arc a.states) ys) c.args.out.now _ _ c.join-3.new.out
+    (passed ∙ ok) (sum_sound _ _ sa sb) c.requires.room (ap₂ ◌+◌ c.states.ensures c.states-2.ensures) fits.0 fits.1
+    (arcs_after c.args.a.record.now.arcs xs c.raise.new.out _ _ own.arcs own.count tail_long ∙ ap (λ zs. xs ++ zs) tail)
+    (length-append xs _ ∙ ap (λ n. length xs + n) (length-map ys (raised_arc a.states)))
+    (ap length c.join-3.ensures ∙ length-append c.arc_weights.result.now c.arc_weights-2.result.now ∙ ap₂ ◌+◌ us vs)
+    (c.join.ensures ∙ ap₂ ◌++◌ c.first.ensures.first c.first-2.ensures.first)
+    (c.join-2.ensures ∙ ap₂ ◌++◌ c.last.ensures.last c.last-2.ensures.last)
+    (sum_arcs a b xs ys _ _ _ ea eb us c.join-3.ensures) in
     record {
       body = made;
-      shows = λ w. ap (λ s. picture k s w) made.body ∙ sum_shows g.met.W.Weight.laws (stored a front) (stored b back) sa sb w;
+      shows = λ w. ap (λ s. picture k s w) made.body ∙ sum_shows g.met.W.Weight.laws a b sa sb w;
     }

@@ -3,12 +3,6 @@ use Rattle.std.proofs.lemmas.List.{get_or_read}
 use Rattle.product.proofs.Pairing.{row_below, column_below, paired_is}
 use Rattle.product.proofs.pairs.pair_weights.Goals as goal
 
-pub offset_bounds-xs-i : goal.offset_bounds-xs-i
-offset_bounds-xs-i g c = let h = row_below (length c.args.xs.now) (length c.args.ys.now) c.loop-i.i _ c.requires (omega arith) in omega arith
-
-pub bounds-xs-i : goal.bounds-xs-i
-bounds-xs-i g c = row_below (length c.args.xs.now) (length c.args.ys.now) c.loop-i.i _ c.requires (omega arith)
-
 pub loop-i-preserved : goal.loop-i-preserved
 loop-i-preserved g c =
     let k = g.W.Weight.kind in
