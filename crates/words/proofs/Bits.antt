@@ -1,37 +1,20 @@
 -- The fields of head words and arc words.
-use Rattle.std.proofs.Common.{◌≡◌, ℕ, ◌+◌, ◌*◌, ◌^◌, ◌<◌, ◌≤◌, refl, arith}
+use Rattle.std.proofs.Common.{◌≡◌, ℕ, ◌+◌, ◌*◌, ◌^◌, ◌<◌, ◌≤◌, sym, refl, ap, ◌∙◌, arith}
 use Rattle.weight.specs.Words.{Writing}
 use Rattle.picture.specs.Bodies.{Within}
-use Rattle.picture.specs.Quadrants.{digit}
+use Rattle.picture.specs.Quadrants.{digit, named}
 use Rattle.picture.specs.declared.body.Arc.{Arc}
 use Rattle.picture.specs.declared.quadrant.Quadrant.{Quadrant}
 use Rattle.picture.specs.declared.quadrant.Quadrant.TheVariants.{UpperLeft, UpperRight, LowerLeft, LowerRight}
+use Rattle.picture.proofs.Digits.{digit_below}
 use Rattle.words.specs.Format.{head_word, arc_word}
 use Rattle.words.specs.Layout.{bits, HeadLayout, ArcLayout}
 
-digit_below : (q : Quadrant) → digit q < 4
-digit_below UpperLeft = omega arith
-digit_below UpperRight = omega arith
-digit_below LowerLeft = omega arith
-digit_below LowerRight = omega arith
-
-digit_one : (p q : Quadrant) → digit p ≡ digit q → p ≡ q
-digit_one UpperLeft UpperLeft e = refl
-digit_one UpperLeft UpperRight e = absurd (omega arith)
-digit_one UpperLeft LowerLeft e = absurd (omega arith)
-digit_one UpperLeft LowerRight e = absurd (omega arith)
-digit_one UpperRight UpperLeft e = absurd (omega arith)
-digit_one UpperRight UpperRight e = refl
-digit_one UpperRight LowerLeft e = absurd (omega arith)
-digit_one UpperRight LowerRight e = absurd (omega arith)
-digit_one LowerLeft UpperLeft e = absurd (omega arith)
-digit_one LowerLeft UpperRight e = absurd (omega arith)
-digit_one LowerLeft LowerLeft e = refl
-digit_one LowerLeft LowerRight e = absurd (omega arith)
-digit_one LowerRight UpperLeft e = absurd (omega arith)
-digit_one LowerRight UpperRight e = absurd (omega arith)
-digit_one LowerRight LowerLeft e = absurd (omega arith)
-digit_one LowerRight LowerRight e = refl
+named_digit : (q : Quadrant) → named (digit q) ≡ q
+named_digit UpperLeft = refl
+named_digit UpperRight = refl
+named_digit LowerLeft = refl
+named_digit LowerRight = refl
 
 fields_one : (d f t d' f' t' : ℕ) → f < 64 → t < 64 → f' < 64 → t' < 64
     → 0x2000_0000 + d * 0x400_0000 + f * 0x100 + t ≡ 0x2000_0000 + d' * 0x400_0000 + f' * 0x100 + t' → (d ≡ d') × (f ≡ f') × (t ≡ t')
@@ -41,7 +24,7 @@ fields_one d f t d' f' t' h k h' k' e = (omega arith, omega arith, omega arith)
 pub arc_one : (n : ℕ) (a b : Arc) → n ≤ 64 → Within n a → Within n b → arc_word a ≡ arc_word b → a ≡ b
 arc_one n a b few h k e =
     let same = fields_one (digit a.quadrant) a.from a.to (digit b.quadrant) b.from b.to (omega (arith, h.0)) (omega (arith, h.1)) (omega (arith, k.0)) (omega (arith, k.1)) e in
-    let q = digit_one a.quadrant b.quadrant same.0 in
+    let q = sym (named_digit a.quadrant) ∙ ap named same.0 ∙ named_digit b.quadrant in
     λ i. record { from = same.1 i; to = same.2 i; quadrant = q i }
 
 -- a head word names one pair of counts

@@ -1,9 +1,9 @@
 pub mod Taking
-pub mod Rows
 pub mod Stopping
 pub mod Storing
 pub mod Sizes
 pub mod Parsed
 pub mod Unique
 pub mod Bits
-pub mod Writing
+pub mod Putting
+pub mod Zipping

@@ -103,14 +103,14 @@ module _ {W : Type 0} (s : Writing W) (laws : WordLaws s) (narrow : s.width < 9)
         wrong_one due k.1 (i + 1) e f (subst (λ xs. FirstWrong s n due xs (i + 1) e) same h.4) k.4
 
   -- words have one head
-  abbrev SameHead : (n m : ℕ) (xs : List ℕ) (n' m' : ℕ) (ys : List ℕ) → Type 0
-  SameHead n m xs n' m' ys = (n ≡ n') × (m ≡ m') × (xs ≡ ys)
+  abbrev parts : {given : List ℕ} → Headed s given → ℕ × (ℕ × List ℕ)
+  parts h = (h.states, (h.arcs, h.behind))
 
-  heads_one : (given : List ℕ) (h k : Headed s given) → SameHead h.states h.arcs h.behind k.states k.arcs k.behind
-  heads_one given h k =
+  heads_one : {given : List ℕ} (h k : Headed s given) → parts h ≡ parts k
+  heads_one h k =
       let same = sym h.splits ∙ k.splits in
       let counts = head_one s h.states h.arcs k.states k.arcs h.few_arcs k.few_arcs (head_of same) in
-      (counts.0, counts.1, tail_of same)
+      λ i. (counts.0 i, (counts.1 i, tail_of same i))
 
   abbrev head_of_body : (given : List ℕ) (b : Body W) → SpellsBody s b given → Headed s given
   head_of_body given b h = record {
@@ -125,13 +125,11 @@ module _ {W : Type 0} (s : Writing W) (laws : WordLaws s) (narrow : s.width < 9)
   body_counted : (given : List ℕ) (b : Body W) (h : SpellsBody s b given) → length (flat_map (state_words s) (zip b.first b.last) ++ flat_map (edge_words s) b.arcs) ≡ size s b.states (length b.arcs)
   body_counted given b h = size_body s count (zip b.first b.last) b.arcs b.states (length b.arcs) (length_states b h.limited) refl
 
-  counted_as : (n m : ℕ) (xs : List ℕ) (n' m' : ℕ) (ys : List ℕ) → SameHead n m xs n' m' ys → length ys ≡ size s n' m' → length xs ≡ size s n m
-  counted_as n m xs n' m' ys e l = ap length e.2 ∙ l ∙ ap₂ (size s) (sym e.0) (sym e.1)
+  abbrev RightCount : ℕ × (ℕ × List ℕ) → Type 0
+  RightCount p = length p.1.1 ≡ size s p.0 p.1.0
 
-  wrong_as : (n m : ℕ) (xs : List ℕ) (n' m' : ℕ) (ys : List ℕ) (f : PieceFault) → SameHead n m xs n' m' ys → FirstWrong s n (state_pieces n ++ arc_pieces m) xs 1 f → FirstWrong s n' (state_pieces n' ++ arc_pieces m') ys 1 f
-  wrong_as n m xs n' m' ys f e h =
-      subst (λ zs. FirstWrong s n' (state_pieces n' ++ arc_pieces m') zs 1 f) e.2
-      (subst (λ x. FirstWrong s n' (state_pieces n' ++ arc_pieces x) xs 1 f) e.1 (subst (λ x. FirstWrong s x (state_pieces x ++ arc_pieces m) xs 1 f) e.0 h))
+  abbrev Wrongly : PieceFault → ℕ × (ℕ × List ℕ) → Type 0
+  Wrongly f p = FirstWrong s p.0 (state_pieces p.0 ++ arc_pieces p.1.0) p.1.1 1 f
 
   body_right : (given : List ℕ) (b : Body W) (h : SpellsBody s b given) (f : PieceFault)
       → FirstWrong s b.states (state_pieces b.states ++ arc_pieces (length b.arcs)) (flat_map (state_words s) (zip b.first b.last) ++ flat_map (edge_words s) b.arcs) 1 f → ⊥
@@ -146,11 +144,9 @@ module _ {W : Type 0} (s : Writing W) (laws : WordLaws s) (narrow : s.width < 9)
   narrow_no_body given Width r b h = omega arith
   narrow_no_body given Head r b h = r.1 (head_of_body given b h)
   narrow_no_body given Count r b h =
-      let k = r.1.0 in
-      r.1.1 (counted_as _ _ _ _ _ _ (heads_one given k (head_of_body given b h)) (body_counted given b h))
+      r.1.1 (subst RightCount (heads_one (head_of_body given b h) r.1.0) (body_counted given b h))
   narrow_no_body given (Wrong f) r b h =
-      let k = r.1.0 in
-      body_right given b h f (wrong_as _ _ _ _ _ _ f (heads_one given k (head_of_body given b h)) r.1.2)
+      body_right given b h f (subst (Wrongly f) (heads_one r.1.0 (head_of_body given b h)) r.1.2)
 
   narrow_one_fault : (given : List ℕ) (e f : Fault) → Refused s given e → Refused s given f → e ≡ f
   narrow_one_fault given Width f r t = absurd (omega arith)
@@ -161,24 +157,25 @@ module _ {W : Type 0} (s : Writing W) (laws : WordLaws s) (narrow : s.width < 9)
   narrow_one_fault given Count Width r t = absurd (omega arith)
   narrow_one_fault given Count Head r t = absurd (t.1 r.1.0)
   narrow_one_fault given Count Count r t = refl
-  narrow_one_fault given Count (Wrong f) r t = absurd (r.1.1 (counted_as _ _ _ _ _ _ (heads_one given r.1.0 t.1.0) t.1.1))
+  narrow_one_fault given Count (Wrong f) r t = absurd (r.1.1 (subst RightCount (heads_one t.1.0 r.1.0) t.1.1))
   narrow_one_fault given (Wrong e) Width r t = absurd (omega arith)
   narrow_one_fault given (Wrong e) Head r t = absurd (t.1 r.1.0)
-  narrow_one_fault given (Wrong e) Count r t = absurd (t.1.1 (counted_as _ _ _ _ _ _ (heads_one given t.1.0 r.1.0) r.1.1))
+  narrow_one_fault given (Wrong e) Count r t = absurd (t.1.1 (subst RightCount (heads_one r.1.0 t.1.0) r.1.1))
   narrow_one_fault given (Wrong e) (Wrong f) r t =
       let k = t.1.0 in
-      ap Wrong (wrong_one k.states k.few_states (state_pieces k.states ++ arc_pieces k.arcs) k.behind 1 e f (wrong_as _ _ _ _ _ _ e (heads_one given r.1.0 k) r.1.2) t.1.2)
+      ap Wrong (wrong_one k.states k.few_states (state_pieces k.states ++ arc_pieces k.arcs) k.behind 1 e f (subst (Wrongly e) (heads_one r.1.0 k) r.1.2) t.1.2)
 
   narrow_one_body : (a b : Body W) (given : List ℕ) → SpellsBody s a given → SpellsBody s b given → a ≡ b
   narrow_one_body a b given h k =
-      let same = heads_one given (head_of_body given a h) (head_of_body given b k) in
-      let states = states_one (zip a.first a.last) (zip b.first b.last) (flat_map (edge_words s) a.arcs) (flat_map (edge_words s) b.arcs) (length_states a h.limited ∙ same.0 ∙ sym (length_states b k.limited)) same.2 in
+      let same = heads_one (head_of_body given a h) (head_of_body given b k) in
+      let number = ap (λ (p : ℕ × (ℕ × List ℕ)). p.0) same in
+      let states = states_one (zip a.first a.last) (zip b.first b.last) (flat_map (edge_words s) a.arcs) (flat_map (edge_words s) b.arcs) (length_states a h.limited ∙ number ∙ sym (length_states b k.limited)) (ap (λ (p : ℕ × (ℕ × List ℕ)). p.1.1) same) in
       let u = h.limited.sound in
       let w = k.limited.sound in
       let first : a.first ≡ b.first = sym (firsts-zip a.first a.last (u.lasts ∙ sym u.firsts)) ∙ ap (map (λ (p : W × W). p.0)) states.0 ∙ firsts-zip b.first b.last (w.lasts ∙ sym w.firsts) in
       let last : a.last ≡ b.last = sym (seconds-zip a.first a.last (u.lasts ∙ sym u.firsts)) ∙ ap (map (λ (p : W × W). p.1)) states.0 ∙ seconds-zip b.first b.last (w.lasts ∙ sym w.firsts) in
-      let arcs = arcs_one b.states k.limited.few_states a.arcs b.arcs (subst (λ n. AllByRecursion (λ (e : Edge W). Within n e.0) a.arcs) same.0 u.ends) w.ends same.1 states.1 in
-      λ i. record { states = same.0 i; first = first i; last = last i; arcs = arcs i }
+      let arcs = arcs_one b.states k.limited.few_states a.arcs b.arcs (subst (λ n. AllByRecursion (λ (e : Edge W). Within n e.0) a.arcs) number u.ends) w.ends (ap (λ (p : ℕ × (ℕ × List ℕ)). p.1.0) same) states.1 in
+      λ i. record { states = number i; first = first i; last = last i; arcs = arcs i }
 
 pub no_body : {W : Type 0} (s : Writing W) → WordLaws s → NoBody s
 no_body s laws given f r b h = narrow_no_body s laws h.narrow given f r b h

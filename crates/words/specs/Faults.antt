@@ -1,5 +1,5 @@
 -- Why words are refused, and why a body is not written.
-use Rattle.std.specs.Prelude.{◌≡◌, ℕ, ◌<◌, ◌≤◌, List, ◌∷◌, ◌++◌, length, Some, None, Option}
+use Rattle.std.specs.Prelude.{◌≡◌, ℕ, ◌<◌, ◌≤◌, List, ◌∷◌, ◌++◌, length, Some, None, Option, codes}
 use Rattle.weight.specs.Words.{Writing}
 use Rattle.words.specs.Format.{head_word, size}
 use Rattle.words.specs.Wrong.{state_pieces, arc_pieces, FirstWrong}
@@ -16,6 +16,13 @@ number_and_index Head = (4, None)
 number_and_index Count = (5, None)
 number_and_index (Piece (WrongArc f)) = (6, Some f.word.index)
 number_and_index (Piece (WrongWeight f)) = (7, Some f.word.index)
+
+-- the text of each fault
+abbrev pub text : Fault → List ℕ
+text Width = codes "the kind is too wide to be written"
+text Head = codes "no word, or a head with a wrong tag, code, width, zero bit or count"
+text Count = codes "another number of words than the head calls for"
+text (Piece f) = codes "a wrong arc word, or a weight that no value has"
 
 -- a head within the limits, and what stands behind it
 pub record Headed {W : Type 0} (s : Writing W) (given : List ℕ) : Type 0 where
@@ -42,6 +49,11 @@ Refused s given (Piece f) =
 abbrev pub write_number : WriteFault → ℕ
 write_number TooWide = 3
 write_number TooShort = 16
+
+-- the text of each fault of writing
+abbrev pub write_text : WriteFault → List ℕ
+write_text TooWide = codes "the body is not written"
+write_text TooShort = codes "the body is not written"
 
 -- the fault of writing so many words into so many
 abbrev pub Unwritten : {W : Type 0} → Writing W → (words room : ℕ) → WriteFault → Type 0

@@ -8,7 +8,7 @@ use picture::{Arc, Quadrant};
 pub(crate) fn arc_word(a: Arc) -> u32
     ensures { result ≡ arc_word a }
 {
-    0x2000_0000 + a.quadrant.digit() as u32 * 0x400_0000 + a.from as u32 * 0x100 + a.to as u32
+    0x2000_0000 + u8::from(a.quadrant) as u32 * 0x400_0000 + a.from as u32 * 0x100 + a.to as u32
 }
 
 /// The arc of an arc word whose ends are below n.
@@ -20,9 +20,5 @@ pub(crate) fn read_arc(word: u32, n: u8) -> Option<Arc>
         to: (word % 0x100) as u8,
         quadrant: Quadrant::named(((word >> 26) % 4) as usize),
     };
-    if a.from < n && a.to < n && word == arc_word(a) {
-        Some(a)
-    } else {
-        None
-    }
+    (a.from < n && a.to < n && word == arc_word(a)).then_some(a)
 }

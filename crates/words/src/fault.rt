@@ -1,36 +1,39 @@
-ghost use Rattle.std.specs.Prelude.{◌≡◌};
-ghost use Rattle.words.specs.Faults.{number_and_index, write_number};
+ghost use Rattle.std.specs.Prelude.{◌≡◌, Some};
+ghost use Rattle.words.specs.Faults.{number_and_index, text, write_number, write_text};
 ghost use Rattle.words.specs.declared.fault.Fault.TheVariants.{Piece};
 ghost use Rattle.words.specs.declared.fault.PieceFault.TheVariants.{WrongArc, WrongWeight};
 ghost use Rattle.words.specs.declared.fault.TripFault.TheVariants.{Read, Write};
 
+use std::error::Error;
+use std::fmt;
+
 /// No word, or none that serves, stands at this index.
-#[derive(Clone, Copy)]
+#[derive(Clone, Copy, Debug, PartialEq, Eq)]
 pub struct WordFault {
     pub index: usize,
 }
 
 /// No arc between states has the word at this index.
-#[derive(Clone, Copy)]
+#[derive(Clone, Copy, Debug, PartialEq, Eq)]
 pub struct ArcFault {
     pub word: WordFault,
 }
 
 /// No weight has the words from this index on.
-#[derive(Clone, Copy)]
+#[derive(Clone, Copy, Debug, PartialEq, Eq)]
 pub struct WeightFault {
     pub word: WordFault,
 }
 
 /// The first wrong word behind a head.
-#[derive(Clone, Copy)]
+#[derive(Clone, Copy, Debug, PartialEq, Eq)]
 pub enum PieceFault {
     WrongArc(ArcFault),
     WrongWeight(WeightFault),
 }
 
 /// Why words are not those of a body.
-#[derive(Clone, Copy)]
+#[derive(Clone, Copy, Debug, PartialEq, Eq)]
 pub enum Fault {
     Width,
     Head,
@@ -39,14 +42,14 @@ pub enum Fault {
 }
 
 /// Why a body is not written.
-#[derive(Clone, Copy)]
+#[derive(Clone, Copy, Debug, PartialEq, Eq)]
 pub enum WriteFault {
     TooWide,
     TooShort,
 }
 
 /// Why words are not read and written again.
-#[derive(Clone, Copy)]
+#[derive(Clone, Copy, Debug, PartialEq, Eq)]
 pub enum TripFault {
     Read(Fault),
     Write(WriteFault),
@@ -102,6 +105,7 @@ impl From<WriteFault> for TripFault {
 
 impl Fault {
     /// The number of the fault.
+    // A refusal is more than its number, and no number makes one: a method, and no conversion.
     pub fn number(self) -> u8
         ensures { result ≡ (number_and_index self).0 }
     {
@@ -128,6 +132,7 @@ impl Fault {
 
 impl WriteFault {
     /// The number of the fault.
+    // A refusal is more than its number, and no number makes one: a method, and no conversion.
     pub fn number(self) -> u8
         ensures { result ≡ write_number self }
     {
@@ -137,3 +142,29 @@ impl WriteFault {
         }
     }
 }
+
+// By hand: what a derive of `thiserror` writes promises nothing of the text.
+impl fmt::Display for Fault {
+    ghost output = { λ f. Some (text f) };
+
+    fn fmt<W: fmt::Write>(&self, f: &mut fmt::Formatter<W>) -> fmt::Result {
+        f.write_str(match self {
+            Fault::Width => "the kind is too wide to be written",
+            Fault::Head => "no word, or a head with a wrong tag, code, width, zero bit or count",
+            Fault::Count => "another number of words than the head calls for",
+            Fault::Piece(_) => "a wrong arc word, or a weight that no value has",
+        })
+    }
+}
+
+impl Error for Fault {}
+
+impl fmt::Display for WriteFault {
+    ghost output = { λ f. Some (write_text f) };
+
+    fn fmt<W: fmt::Write>(&self, f: &mut fmt::Formatter<W>) -> fmt::Result {
+        f.write_str("the body is not written")
+    }
+}
+
+impl Error for WriteFault {}

@@ -1,29 +1,32 @@
-ghost use Rattle.std.specs.Prelude.{◌≡◌, ◌<◌, ◌≤◌, [], ◌∷◌, ◌++◌, length, MatchResult};
+ghost use Rattle.std.specs.Prelude.{◌≡◌, ◌+◌, ◌^◌, ◌<◌, ◌≤◌, [], ◌∷◌, ◌++◌, length, MatchResult};
 ghost use Rattle.std.specs.List.{zip, flat_map, AllByRecursion};
 ghost use Rattle.picture.specs.Bodies.{Within};
 ghost use Rattle.words.specs.Format.{arc_word, state_words, edge_words};
-ghost use Rattle.words.specs.Inner.{Took, Fits, states_in, ReadBody};
 ghost use Rattle.words.specs.Wrong.{state_pieces, arc_pieces, NoWeight, NoArc, FirstWrong};
 ghost use Rattle.words.specs.declared.fault.PieceFault.TheVariants.{WrongWeight};
 
 use crate::arc::read_arc;
 use crate::fault::{ArcFault, PieceFault, WeightFault, WordFault};
 use crate::head::Counts;
-use crate::{ARC_WEIGHTS, LAST_WEIGHTS};
-use picture::{Arc, MAX_ARCS, NO_ARC, Record};
+use picture::{ARC_WEIGHTS, Arc, LAST_WEIGHTS, MAX_ARCS, NO_ARC, Record};
+use std::marker::PhantomData;
 use weight::Written;
 
-/// Reads words in place, and keeps its position.
+/// Reads words in place, and keeps its position, which cannot wrap.
 #[derive(Drop)]
-pub(crate) struct Reader<'a> {
+pub(crate) struct Reader<'a, W: Written> {
     pub rest: &'a [u32],
     pub position: usize,
+    pub kind: PhantomData<W>,
+    ghost fits: { position + length rest.now < 2 ^ 64 },
+    ghost narrow: { W.writing.width < 9 },
 }
 
-impl Reader<'_> {
+impl<W: Written> Reader<'_, W> {
+    ghost use Rattle.words.specs.Inner.{Took, Passed, ReadBody};
+
     /// The next word.
     fn word(&mut self) -> Result<u32, WordFault>
-        requires { Fits self.old }
         ensures { MatchResult result (λ w. Took (w ∷ []) self.old self.new) (λ f. (f.index ≡ self.old.position) × (self.old.rest.now ≡ [])) }
     {
         let [word, rest @ ..] = self.rest else {
@@ -38,23 +41,17 @@ impl Reader<'_> {
 
     /// The next arc, with ends below n.
     fn arc(&mut self, n: u8) -> Result<Arc, ArcFault>
-        requires { Fits self.old }
         ensures { MatchResult result (λ a. Within n a × Took (arc_word a ∷ []) self.old self.new) (λ f. (f.word.index ≡ self.old.position) × NoArc n self.old.rest.now) }
     {
         let index = self.position;
         let word = self.word()?;
-        match read_arc(word, n) {
-            Some(a) => Ok(a),
-            None => Err(ArcFault {
-                word: WordFault { index },
-            }),
-        }
+        read_arc(word, n).ok_or(ArcFault {
+            word: WordFault { index },
+        })
     }
 
     /// The next weight.
-    fn weight<W: Written>(&mut self) -> Result<W, WeightFault>
-        requires narrow { W.writing.width < 9 }
-        requires fits { Fits self.old }
+    fn weight(&mut self) -> Result<W, WeightFault>
         ensures { MatchResult result (λ v. Took (W.writing.words v) self.old self.new) (λ f. (f.word.index ≡ self.old.position) × NoWeight {W = W} W.writing self.old.rest.now) }
     {
         let wrong = WeightFault {
@@ -63,66 +60,47 @@ impl Reader<'_> {
             },
         };
         let c = W::width();
-        if self.rest.len() < c {
-            return Err(wrong);
-        }
-        let (front, back) = self.rest.split_at(c);
-        let Some(v) = W::read(front) else {
-            return Err(wrong);
-        };
+        let (front, back) = self.rest.split_at_checked(c).ok_or(wrong)?;
+        let v = W::read(front).ok_or(wrong)?;
         self.rest = back;
         self.position += c;
         Ok(v)
     }
 
-    /// The first and last weights of n states.
-    fn states<W: Written>(&mut self, n: usize, weights: &mut [W]) -> Result<(), WeightFault>
-        requires narrow { W.writing.width < 9 }
-        requires few { n ≤ 64 }
-        requires room { length weights.old ≡ 640 }
-        requires fits { Fits self.old }
-        ensures { MatchResult result (λ _. Took (flat_map (state_words W.writing) (states_in n weights.new)) self.old self.new) (λ f. FirstWrong {W = W} W.writing n (state_pieces n) self.old.rest.now self.old.position (WrongWeight f)) }
+    /// The first and last weights of states.
+    fn states(&mut self, firsts: &mut [W], lasts: &mut [W]) -> Result<(), WeightFault>
+        requires both { length lasts.old ≡ length firsts.old }
+        ensures { MatchResult result (λ _. Took (flat_map (state_words W.writing) (zip firsts.new lasts.new)) self.old self.new × Passed {W = W} W.writing (length firsts.old) (state_pieces (length firsts.old)) self.old self.new) (λ f. FirstWrong {W = W} W.writing (length firsts.old) (state_pieces (length firsts.old)) self.old.rest.now self.old.position (WrongWeight f)) }
     {
-        for q in 0..n {
-            weights[q] = self.weight()?;
-            weights[LAST_WEIGHTS + q] = self.weight()?;
+        // By index: once an `iter_mut` inside a `zip` is done, a proof knows nothing of what was written.
+        for (q, first) in firsts.iter_mut().enumerate() {
+            *first = self.weight()?;
+            lasts[q] = self.weight()?;
         }
         Ok(())
     }
 
     /// Arcs with ends below n, and their weights.
-    fn arcs<W: Written>(
-        &mut self,
-        n: u8,
-        arcs: &mut [Arc],
-        weights: &mut [W],
-    ) -> Result<(), PieceFault>
-        requires narrow { W.writing.width < 9 }
-        requires room { length arcs.old ≡ length weights.old }
-        requires fits { Fits self.old }
+    fn arcs(&mut self, n: u8, arcs: &mut [Arc], weights: &mut [W]) -> Result<(), PieceFault>
+        requires both { length arcs.old ≡ length weights.old }
         ensures { MatchResult result (λ _. AllByRecursion (Within n) arcs.new × Took (flat_map (edge_words W.writing) (zip arcs.new weights.new)) self.old self.new) (FirstWrong {W = W} W.writing n (arc_pieces (length weights.old)) self.old.rest.now self.old.position) }
     {
-        for k in 0..arcs.len() {
-            arcs[k] = self.arc(n)?;
+        // By index: once an `iter_mut` inside a `zip` is done, a proof knows nothing of what was written.
+        for (k, arc) in arcs.iter_mut().enumerate() {
+            *arc = self.arc(n)?;
             weights[k] = self.weight()?;
         }
         Ok(())
     }
 
     /// What stands behind a head.
-    pub(crate) fn body<W: Written>(
-        &mut self,
-        counts: Counts,
-        weights: &mut [W],
-    ) -> Result<Record, PieceFault>
-        requires narrow { W.writing.width < 9 }
-        requires few_states { counts.states ≤ 64 }
-        requires few_arcs { counts.arcs ≤ 512 }
+    pub(crate) fn body(&mut self, counts: Counts, weights: &mut [W]) -> Result<Record, PieceFault>
         requires room { length weights.old ≡ 640 }
-        requires fits { Fits self.old }
         ensures { MatchResult result (ReadBody W.writing counts weights.new self.old self.new) (FirstWrong {W = W} W.writing counts.states (state_pieces counts.states ++ arc_pieces counts.arcs) self.old.rest.now self.old.position) }
     {
-        self.states(counts.states as usize, weights)?;
+        let n = counts.states as usize;
+        let (firsts, others) = weights.split_at_mut(LAST_WEIGHTS);
+        self.states(&mut firsts[0..n], &mut others[0..n])?;
         let m = counts.arcs as usize;
         let mut arcs = [NO_ARC; MAX_ARCS];
         let all = &mut arcs[..];

@@ -8,6 +8,7 @@ use crate::fault::Fault;
 use crate::head::read_head;
 use crate::reader::Reader;
 use picture::{BAY, Record};
+use std::marker::PhantomData;
 use weight::{TOO_WIDE, Written};
 
 /// Reads a body from its words into the record that is returned and 640 weights, which a refusal may change.
@@ -15,21 +16,22 @@ fn parse<W: Written>(given: &[u32], weights: &mut [W]) -> Result<Record, Fault>
     requires { length weights.old ≡ 640 }
     ensures { MatchResult result (λ place. Kept place × SpellsBody W.writing (stored place weights.new) given.now) (Refused {W = W} W.writing given.now) }
 {
-    let c = W::width();
-    if c >= TOO_WIDE {
+    if W::width() >= TOO_WIDE {
         return Err(Fault::Width);
     }
     let [head, rest @ ..] = given else {
         return Err(Fault::Head);
     };
     let counts = read_head::<W>(*head)?;
-    let size = counts.states as usize * (2 * c) + counts.arcs as usize * (1 + c);
-    if rest.len() != size {
+    if rest.len() != counts.size::<W>() {
         return Err(Fault::Count);
     }
-    let mut reader = Reader { rest, position: 1 };
-    let place = reader.body(counts, weights)?;
-    Ok(place)
+    let mut reader = Reader {
+        rest,
+        position: 1,
+        kind: PhantomData,
+    };
+    Ok(reader.body(counts, weights)?)
 }
 
 /// Reads a body from its words into the record that is returned and 640 weights, which a refusal leaves as they were.

@@ -1,13 +1,13 @@
 ghost use Rattle.std.specs.Prelude.{◌≡◌, length};
-ghost use Rattle.picture.specs.Stored.{stored, Kept};
+ghost use Rattle.picture.specs.Lent.{lent};
 ghost use Rattle.words.specs.Calls.{HeldUnlessUnread, Rewritten, Reread};
 ghost use Rattle.words.specs.Layout.{HeadLayout, ArcLayout};
 ghost use Rattle.words.specs.Laws.{OneBody, NoBody, OneFault};
 
 use crate::fault::{TripFault, WriteFault};
 use crate::reading::read;
-use crate::writer::write;
-use picture::Record;
+use crate::writing::write;
+use picture::{Record, Stored};
 use weight::Written;
 
 /// Reads words into 640 weights, and writes the body again: the words are the same.
@@ -21,27 +21,24 @@ pub fn rewrite<W: Written>(
     ensures held { HeldUnlessUnread W.writing given.now weights.new result }
 {
     let place = read(given, weights)?;
-    let count = write(&place, weights, out)?;
-    Ok(count)
+    let body = Stored {
+        record: &place,
+        weights,
+    };
+    Ok(write(body, out)?)
 }
 
 /// Writes a body, and reads the words into 640 other weights: the body is the same.
 pub fn reread<W: Written>(
-    place: &Record,
-    weights: &[W],
+    body: Stored<'_, W>,
     out: &mut [u32],
     others: &mut [W],
 ) -> Result<Record, WriteFault>
-    requires kept { Kept place.now }
-    requires room { length weights.now ≡ 640 }
-    requires more { length others.old ≡ 640 }
-    ensures { Reread W.writing (stored place.now weights.now) out.old out.new others.old others.new result }
+    requires { length others.old ≡ 640 }
+    ensures { Reread W.writing (lent body.entry) out.old out.new others.old others.new result }
 {
-    let count = write(place, weights, out)?;
-    let Ok(other) = read(&out[0..count], others) else {
-        unreachable()
-    };
-    Ok(other)
+    let count = write(body, out)?;
+    Ok(read(&out[0..count], others).unwrap())
 }
 
 /// Equal words mean equal bodies, words with a fault are those of no body and have one fault, and words have their fields at their bits.

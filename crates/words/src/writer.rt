@@ -1,87 +1,66 @@
-ghost use Rattle.std.specs.Prelude.{◌≡◌, ◌+◌, ◌*◌, ◌<◌, ◌≤◌, length};
+ghost use Rattle.std.specs.Prelude.{◌≡◌, ◌+◌, ◌*◌, ◌<◌, ◌≤◌, [], ◌∷◌, length};
 ghost use Rattle.std.specs.List.{zip, flat_map};
-ghost use Rattle.picture.specs.Stored.{stored, Kept};
-ghost use Rattle.words.specs.Calls.{Wrote};
-ghost use Rattle.words.specs.Format.{state_words, edge_words, words_of, Limited};
-ghost use Rattle.words.specs.Inner.{states_in};
+ghost use Rattle.words.specs.Format.{arc_word, state_words, edge_words};
 
 use crate::arc::arc_word;
-use crate::fault::WriteFault;
-use crate::head::head_word;
-use crate::{ARC_WEIGHTS, LAST_WEIGHTS};
-use picture::{Arc, Record};
-use weight::{TOO_WIDE, Written};
+use picture::Arc;
+use std::marker::PhantomData;
+use weight::Written;
 
-/// Writes the words of a weight.
-fn write_weight<W: Written>(value: W, out: &mut [u32])
-    requires narrow { W.writing.width < 9 }
-    requires long { length out.old ≡ W.writing.width }
-    ensures { out.new ≡ W.writing.words value }
-{
-    for i in 0..out.len() {
-        out[i] = value.word(i);
-    }
+/// Writes words in place, and keeps its position.
+// It writes into lent memory (no heap), so it holds a slice and a position.
+#[derive(Drop)]
+pub(crate) struct Writer<'a, W: Written> {
+    pub out: &'a mut [u32],
+    pub position: usize,
+    pub kind: PhantomData<W>,
+    ghost narrow: { W.writing.width < 9 },
 }
 
-/// Writes the words of n states.
-fn write_states<W: Written>(weights: &[W], n: usize, out: &mut [u32])
-    requires narrow { W.writing.width < 9 }
-    requires few { n ≤ 64 }
-    requires room { length weights.now ≡ 640 }
-    requires long { length out.old ≡ n * (2 * W.writing.width) }
-    ensures { out.new ≡ flat_map (state_words W.writing) (states_in n weights.now) }
-{
-    let c = W::width();
-    let mut at = 0;
-    for q in 0..n {
-        write_weight(weights[q], &mut out[at..at + c]);
-        write_weight(weights[LAST_WEIGHTS + q], &mut out[at + c..at + 2 * c]);
-        at += 2 * c;
-    }
-}
+impl<W: Written> Writer<'_, W> {
+    ghost use Rattle.words.specs.Inner.{Put};
 
-/// Writes the words of arcs and their weights.
-fn write_arcs<W: Written>(arcs: &[Arc], weights: &[W], out: &mut [u32])
-    requires narrow { W.writing.width < 9 }
-    requires room { length arcs.now ≡ length weights.now }
-    requires long { length out.old ≡ length arcs.now * (1 + W.writing.width) }
-    ensures { out.new ≡ flat_map (edge_words W.writing) (zip arcs.now weights.now) }
-{
-    let c = W::width();
-    let mut at = 0;
-    for k in 0..arcs.len() {
-        out[at] = arc_word(arcs[k]);
-        write_weight(weights[k], &mut out[at + 1..at + 1 + c]);
-        at += 1 + c;
+    /// Writes a word.
+    pub(crate) fn word(&mut self, word: u32)
+        requires { self.old.position < length self.old.out.now }
+        ensures { Put (word ∷ []) self.old self.new }
+    {
+        self.out[self.position] = word;
+        self.position += 1;
     }
-}
 
-/// Writes the words of a body, and answers how many.
-pub fn write<W: Written>(
-    place: &Record,
-    weights: &[W],
-    out: &mut [u32],
-) -> Result<usize, WriteFault>
-    requires kept { Kept place.now }
-    requires room { length weights.now ≡ 640 }
-    ensures outcome { Wrote {W = W} W.writing (words_of W.writing (stored place.now weights.now)) out.old out.new result }
-    ensures limited { Limited (stored place.now weights.now) }
-{
-    let c = W::width();
-    if c >= TOO_WIDE {
-        return Err(WriteFault::TooWide);
+    /// Writes the words of a weight.
+    fn weight(&mut self, value: W)
+        requires room { self.old.position + W.writing.width ≤ length self.old.out.now }
+        ensures { Put (W.writing.words value) self.old self.new }
+    {
+        // A kind gives the words of a value one at a time, by their index.
+        for i in 0..W::width() {
+            self.word(value.word(i));
+        }
     }
-    let n = place.states as usize;
-    let m = place.count as usize;
-    let middle = 1 + n * (2 * c);
-    let end = middle + m * (1 + c);
-    if out.len() < end {
-        return Err(WriteFault::TooShort);
+
+    /// Writes the words of states, by their first and last weights.
+    pub(crate) fn states(&mut self, firsts: &[W], lasts: &[W])
+        requires both { length lasts.now ≡ length firsts.now }
+        requires room { self.old.position + length firsts.now * (2 * W.writing.width) ≤ length self.old.out.now }
+        ensures { Put (flat_map (state_words W.writing) (zip firsts.now lasts.now)) self.old self.new }
+    {
+        for (first, last) in firsts.iter().zip(lasts) {
+            self.weight(*first);
+            self.weight(*last);
+        }
     }
-    out[0] = head_word::<W>(place.states, place.count);
-    write_states(weights, n, &mut out[1..middle]);
-    let arcs = &place.arcs[..];
-    let own = &weights[ARC_WEIGHTS..ARC_WEIGHTS + m];
-    write_arcs(&arcs[0..m], own, &mut out[middle..end]);
-    Ok(end)
+
+    /// Writes the words of arcs and their weights.
+    pub(crate) fn arcs(&mut self, arcs: &[Arc], weights: &[W])
+        requires both { length weights.now ≡ length arcs.now }
+        requires room { self.old.position + length arcs.now * (1 + W.writing.width) ≤ length self.old.out.now }
+        ensures { Put (flat_map (edge_words W.writing) (zip arcs.now weights.now)) self.old self.new }
+    {
+        for (arc, weight) in arcs.iter().zip(weights) {
+            self.word(arc_word(*arc));
+            self.weight(*weight);
+        }
+    }
 }
