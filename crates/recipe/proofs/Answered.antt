@@ -1,30 +1,18 @@
 -- What the reader says of its own state, said of the script.
 use Rattle.std.proofs.Common.{◌≡◌, ℕ, ◌+◌, ◌<◌, ◌≤◌, List, [], ◌∷◌, ◌++◌, length, get_or, take, drop, Some, sym, ap, ◌∙◌, subst, append_assoc, append-nil, arith}
 use Rattle.std.proofs.lemmas.List.{drop_more, drop_all, take_at, take_more, get_or_at}
+use Rattle.std.proofs.lemmas.List.{map-append, length-map}
 use Rattle.recipe.specs.declared.reader.Reader.{Reader}
 use Rattle.recipe.specs.declared.fault.Fault.{Fault}
-use Rattle.recipe.specs.declared.step.Recipe.{Recipe}
 use Rattle.recipe.specs.declared.fault.Fault.TheVariants.{TooLong, Grammar, Level, Waiting}
 use Rattle.recipe.specs.Trees.{script, Tree, blank, text}
-use Rattle.recipe.specs.Steps.{steps, listed}
 use Rattle.recipe.specs.Limits.{plain, counted, Within}
 use Rattle.recipe.specs.Devices.Reading.{codes}
 use Rattle.recipe.specs.Devices.Machine.{State, begin, run, Blocked, Opens, o_script}
-use Rattle.recipe.specs.Devices.Reading.{left, made, first, Got, Lost, byte_of}
-use Rattle.recipe.specs.Outcomes.{Accepted, Begins, WithinTo, byte_at, Refused}
+use Rattle.recipe.specs.Devices.Reading.{first, Lost, byte_of}
+use Rattle.recipe.specs.Outcomes.{Begins, WithinTo, byte_at, Refused}
 use Rattle.recipe.proofs.Walks.{walk, none_begins}
-use Rattle.recipe.proofs.Refusals.{spells, codes_++, length_codes, first_at}
-
-pub whole : {a b : Reader} (r : Recipe) → length a.src.now ≤ 512 → a.pos ≡ 0 → a.count ≡ 0 → a.waiting ≡ 0 → Got script 0 a b → left b ≡ [] → listed r ≡ made b → Accepted a.src.now r
-whole {a} {b} r le p c w g e m = record {
-  short = le;
-  tree = g.tree;
-  spells = record {
-    is = sym (ap (λ v. drop v a.src.now) (sym p) ∙ g.did.split ∙ ap (λ v. text g.tree ++ v) e ∙ append-nil (text g.tree));
-    within = subst (λ v. Within (counted g.tree 0 v)) w g.fine;
-  };
-  are = m ∙ g.did.adds ∙ (λ i. take (c i) a.steps ++ steps g.tree (p i));
-}
+use Rattle.recipe.proofs.Refusals.{spells, first_at}
 
 module _ (a : Reader) (f : Fault) (p : a.pos ≡ 0) (w : a.waiting ≡ 0) (h : Lost script 0 a f) where
   abbrev src : List ℕ
@@ -37,7 +25,7 @@ module _ (a : Reader) (f : Fault) (p : a.pos ≡ 0) (w : a.waiting ≡ 0) (h : L
   long = omega (arith, h.at)
 
   wide : length (codes h.before) ≡ i
-  wide = length_codes h.before ∙ long
+  wide = length-map h.before _ ∙ long
 
   parts : src ≡ codes h.before ++ drop i src
   parts = ap (λ v. drop v a.src.now) (sym p) ∙ h.split
@@ -49,7 +37,7 @@ module _ (a : Reader) (f : Fault) (p : a.pos ≡ 0) (w : a.waiting ≡ 0) (h : L
   is = ap (counted h.tree 0) (sym w) ∙ h.is
 
   word : text h.tree ≡ codes h.before ++ h.here.code ∷ codes h.after
-  word = sym (spells h.tree 0 0) ∙ ap codes is ∙ codes_++ h.before (h.here ∷ h.after)
+  word = sym (spells h.tree 0 0) ∙ ap codes is ∙ map-append _ h.before (h.here ∷ h.after)
 
   begins : Begins h.tree src i
   begins = (h.here.code ∷ codes h.after, word ∙ ap (λ v. v ++ h.here.code ∷ codes h.after) (sym front))

@@ -2,12 +2,12 @@
 use Rattle.std.proofs.Common.{◌≡◌, ℕ, zero, suc, ◌+◌, ◌⊎◌, List, [], ◌∷◌, ◌++◌, length, get_or, take, Some, None, Option, sym, refl, ap, ◌∙◌, subst, inl, inr, arith}
 use Rattle.std.proofs.lemmas.List.{take_at}
 use Rattle.recipe.specs.declared.place.Place.{Place}
-use Rattle.recipe.specs.declared.place.Place.TheVariants.{A, B, C, D, E, F, G, H}
 use Rattle.recipe.specs.Places.{letter}
 use Rattle.recipe.specs.Trees.{Cat, sum, product, part, closed, line, script, Prefix, turn, mirror, zoom, Tree, one, plus, single, times, name, prefixed, round, pieces, closes, row, blank, next, spelled, text}
 use Rattle.recipe.specs.Limits.{Byte, plain, opens, waits, ahead, counted}
 use Rattle.recipe.specs.Devices.Machine.{name_of, whether, Around, in_line, in_round, in_first, in_second, in_third, in_fourth, State, begin, named, want, zooming, done, dead, join, delta, run}
 use Rattle.recipe.proofs.Walks.{run_prefix, delta_target, walk, prod, rest}
+use Rattle.recipe.proofs.Numbers.{each_place}
 
 abbrev has : {X : Type 0} → Option X → ℕ
 has None = 0
@@ -53,14 +53,7 @@ after : (σ : State) {τ : State} (xs ys : List ℕ) {ms ns : List Byte} → run
 after σ {τ} xs ys {ms} {ns} p q r = tags_++ σ xs ys ∙ (λ i. q i ++ tags (p i) ys) ∙ ap (λ v. ms ++ v) r
 
 tag_name : (k : Place) (o : List Prefix) (m : Option (Tree product)) (s : Option (Tree sum)) (c : Around) → tag (want o m s c) (letter k) ≡ waits (letter k) (base c + has s + has m + 1)
-tag_name A o m s c = refl
-tag_name B o m s c = refl
-tag_name C o m s c = refl
-tag_name D o m s c = refl
-tag_name E o m s c = refl
-tag_name F o m s c = refl
-tag_name G o m s c = refl
-tag_name H o m s c = refl
+tag_name k o m s c = each_place (λ k. tag (want o m s c) (letter k) ≡ waits (letter k) (base c + has s + has m + 1)) refl refl refl refl refl refl refl refl k
 
 tags_prefix : (x : Prefix) (o : List Prefix) (m : Option (Tree product)) (s : Option (Tree sum)) (c : Around) → tags (want o m s c) (spelled x) ≡ ahead x (depth c + length o + 1)
 tags_prefix turn o m s c = refl

@@ -1,35 +1,25 @@
 -- What reading a tree does, put together from its parts.
-use Rattle.std.proofs.Common.{◌≡◌, ℕ, ◌+◌, ◌-◌, ◌<◌, ◌≤◌, List, [], ◌∷◌, ◌++◌, length, get_or, take, drop, sym, refl, ap, ◌∙◌, subst, append_assoc, append-nil, add-zero, arith, length-append}
-use Rattle.std.proofs.lemmas.List.{drop_more}
+use Rattle.std.proofs.Common.{◌≡◌, ℕ, ◌+◌, ◌-◌, ◌<◌, ◌≤◌, Ok, List, [], ◌∷◌, ◌++◌, length, sym, refl, ap, ◌∙◌, subst, append_assoc, append-nil, add-zero, arith, length-append}
 use Rattle.recipe.specs.declared.reader.Reader.{Reader}
 use Rattle.recipe.specs.declared.step.Step.{Step}
 use Rattle.recipe.specs.declared.step.Step.TheVariants.{Name, Add, Multiply, Piece}
 use Rattle.recipe.specs.declared.place.Place.{Place}
 use Rattle.recipe.specs.Places.{letter}
 use Rattle.recipe.specs.Trees.{Cat, sum, product, part, closed, Prefix, turn, mirror, zoom, Tree, one, plus, single, times, name, prefixed, round, pieces, closes, row, blank, next, spelled, text}
-use Rattle.recipe.specs.Steps.{step_of, steps}
+use Rattle.recipe.specs.Steps.{steps}
 use Rattle.recipe.specs.Limits.{Byte, ahead, counted, Within}
 use Rattle.recipe.specs.declared.reader.grammar.Opening.{Opening}
-use Rattle.recipe.specs.Devices.Reading.{opener, left, made, Fit, Did, Took, Pushed, Got}
+use Rattle.recipe.specs.declared.reader.grammar.Start.TheVariants.{Ahead, Bracket, Pieces}
+use Rattle.recipe.specs.Devices.Reading.{opener, left, made, Did, Took, Pushed, Got, Starts}
 
-pub took_one : (a b : Reader) (x : ℕ) → Fit a → a.pos < length a.src.now → get_or a.src.now a.pos 0 ≡ x → b.src.now ≡ a.src.now → b.pos ≡ a.pos + 1 → b.steps ≡ a.steps → b.count ≡ a.count → b.waiting ≡ a.waiting → Took (x ∷ []) a b
-took_one a b x f lt e src pos ss count w = record {
-  did = record {
-    same = src;
-    fit = record { inside = omega (arith, ap length src, f); short = omega (arith, ap length src, f); room = omega (arith, f); waits = omega (arith, f); long = ap length ss ∙ f.long };
-    split = drop_more a.src.now a.pos 0 lt ∙ (λ i. e i ∷ drop (sym pos i) (sym src i));
-    on = pos;
-    count = count ∙ sym (add-zero a.count);
-    adds = (λ i. take (count i) (ss i)) ∙ sym (append-nil (made a));
-  };
-  waits = w;
-}
+-- nothing was read
+pub stay : (a : Reader) → Did [] [] a a
+stay a = record { same = refl; split = refl; on = sym (add-zero a.pos); count = sym (add-zero a.recipe.count); adds = sym (append-nil (made a)) }
 
 -- one after the other
 pub both : {xs ys : List ℕ} {ss ts : List Step} {a b c : Reader} → Did xs ss a b → Did ys ts b c → Did (xs ++ ys) (ss ++ ts) a c
 both {xs} {ys} {ss} {ts} {a} {b} {c} p q = record {
   same = q.same ∙ p.same;
-  fit = q.fit;
   split = p.split ∙ ap (λ v. xs ++ v) q.split ∙ sym (append_assoc xs ys (left c));
   on = simp length-append (omega (arith, p.on, q.on));
   count = simp length-append (omega (arith, p.count, q.count));
@@ -82,13 +72,17 @@ fine_ahead mirror l h = (h, omega arith, tt)
 fine_ahead (zoom d) l h = (h, omega arith, (omega arith, omega arith, tt))
 
 -- a part behind '@', '|' or '^' and a digit
-pub got_prefixed : {l : ℕ} {a b c d : Reader} {s : Step} (x : Prefix) → step_of x ≡ s → l < 16 → Took (spelled x) a b → Got part (l + 1) b c → Pushed s c.waiting c d → Got part l a d
-got_prefixed {l} {a} {b} {c} {d} {s} x is lt t g p = record {
-  tree = prefixed x g.tree;
-  did = same_did (ap (λ v. spelled x ++ v) (append-nil (text g.tree))) (λ i. steps g.tree (t.did.on i) ++ sym is i ∷ []) (both t.did (both g.did p.did));
-  waits = p.waits ∙ g.waits ∙ ap (λ v. v + 1) t.waits;
-  fine = fine_++ (ahead x (l + 1)) _ (fine_ahead x (l + 1) (omega arith)) (subst (λ v. Within (counted g.tree (l + 1) v)) t.waits g.fine);
-}
+pub got_prefixed : {l : ℕ} {a b c d : Reader} {s : Step} → Starts l a b (Ok (Ahead s)) → Got part (l + 1) b c → Pushed s c.waiting c d → Got part l a d
+got_prefixed {l} {a} {b} {c} {d} {s} h g p =
+    let x = h.0.0 in
+    let is = h.0.1 in
+    let t = h.0.2 in
+    record {
+      tree = prefixed x g.tree;
+      did = same_did (ap (λ v. spelled x ++ v) (append-nil (text g.tree))) (λ i. steps g.tree (t.did.on i) ++ sym is i ∷ []) (both t.did (both g.did p.did));
+      waits = p.waits ∙ g.waits ∙ ap (λ v. v + 1) t.waits;
+      fine = fine_++ (ahead x (l + 1)) _ (fine_ahead x (l + 1) (omega arith)) (subst (λ v. Within (counted g.tree (l + 1) v)) t.waits g.fine);
+    }
 
 -- a sum and the byte behind it
 pub got_closed : {l : ℕ} {a b c : Reader} (e : ℕ) → Got sum l a b → Took (e ∷ []) b c → Got (closed e) l a c
@@ -99,12 +93,12 @@ got_closed {l} {a} {b} {c} e g t = record {
   fine = fine_++ (counted g.tree l a.waiting) _ g.fine (omega arith, omega arith, tt);
 }
 
-pub got_round : {l : ℕ} {a b c : Reader} → l < 16 → Took (40 ∷ []) a b → Got (closed 41) (l + 1) b c → Got part l a c
-got_round {l} {a} {b} {c} lt t g = record {
+pub got_round : {l : ℕ} {a b c : Reader} → Starts l a b (Ok Bracket) → Got (closed 41) (l + 1) b c → Got part l a c
+got_round {l} {a} {b} {c} s g = record {
   tree = round g.tree;
-  did = same_did refl (ap (steps g.tree) t.did.on) (both t.did g.did);
-  waits = g.waits ∙ ap (λ v. v + 1) t.waits;
-  fine = (omega arith, omega arith, subst (λ v. Within (counted g.tree (l + 1) v)) t.waits g.fine);
+  did = same_did refl (ap (steps g.tree) s.0.did.on) (both s.0.did g.did);
+  waits = g.waits ∙ ap (λ v. v + 1) s.0.waits;
+  fine = (omega arith, omega arith, subst (λ v. Within (counted g.tree (l + 1) v)) s.0.waits g.fine);
 }
 
 pub got_single : {l : ℕ} {a b : Reader} → Got part l a b → Got product l a b
@@ -135,14 +129,14 @@ got_plus {l} {a} {b} {c} {d} {e} q t g p =
       fine = fine_++ (counted q.tree l a.waiting) _ q.fine (omega arith, omega arith, subst (λ v. Within (counted g.tree l v)) (t.waits ∙ q.waits) g.fine);
     }
 
-pub got_pieces : {l : ℕ} {a b c d e f g : Reader} → l < 16 → Took (91 ∷ []) a b → Got (closed 44) (l + 1) b c → Got (closed 44) (l + 1) c d → Got (closed 44) (l + 1) d e → Got (closed 93) (l + 1) e f → Pushed (Piece (f.pos - 1)) (f.waiting - 3) f g → Got part l a g
-got_pieces {l} {a} {b} {c} {d} {e} {f} {g} lt t x y z u p =
-    let n₁ : b.pos ≡ a.pos + 1 = t.did.on in
+pub got_pieces : {l : ℕ} {a b c d e f g : Reader} → Starts l a b (Ok Pieces) → Got (closed 44) (l + 1) b c → Got (closed 44) (l + 1) c d → Got (closed 44) (l + 1) d e → Got (closed 93) (l + 1) e f → Pushed (Piece (f.pos - 1)) (f.waiting - 3) f g → Got part l a g
+got_pieces {l} {a} {b} {c} {d} {e} {f} {g} s x y z u p =
+    let n₁ : b.pos ≡ a.pos + 1 = s.0.did.on in
     let n₂ : c.pos ≡ a.pos + 1 + length (text x.tree) = omega (arith, x.did.on) in
     let n₃ : d.pos ≡ a.pos + 1 + length (text x.tree) + length (text y.tree) = omega (arith, y.did.on) in
     let n₄ : e.pos ≡ a.pos + 1 + length (text x.tree) + length (text y.tree) + length (text z.tree) = omega (arith, z.did.on) in
     let n₅ : f.pos - 1 ≡ a.pos + length (text x.tree) + length (text y.tree) + length (text z.tree) + length (text u.tree) = omega (arith, u.did.on) in
-    let w₁ : b.waiting ≡ a.waiting = t.waits in
+    let w₁ : b.waiting ≡ a.waiting = s.0.waits in
     let w₂ : c.waiting ≡ a.waiting + 1 = omega (arith, x.waits) in
     let w₃ : d.waiting ≡ a.waiting + 2 = omega (arith, y.waits) in
     let w₄ : e.waiting ≡ a.waiting + 3 = omega (arith, z.waits) in
@@ -152,7 +146,7 @@ got_pieces {l} {a} {b} {c} {d} {e} {f} {g} lt t x y z u p =
           same_did
           (ap (λ v. 91 ∷ text x.tree ++ (text y.tree ++ (text z.tree ++ v))) (append-nil (text u.tree)))
           (λ i. steps x.tree (n₁ i) ++ (steps y.tree (n₂ i) ++ (steps z.tree (n₃ i) ++ (steps u.tree (n₄ i) ++ Piece (n₅ i) ∷ []))))
-          (both t.did (both x.did (both y.did (both z.did (both u.did p.did)))));
+          (both s.0.did (both x.did (both y.did (both z.did (both u.did p.did)))));
       waits = omega (arith, p.waits, u.waits);
       fine = (
         omega arith,
@@ -164,17 +158,13 @@ got_pieces {l} {a} {b} {c} {d} {e} {f} {g} lt t x y z u p =
       );
     }
 
--- fewer steps than codes leave room for one more
-pub spare : {xs : List ℕ} {ss : List Step} {a b : Reader} → Did xs ss a b → Fit a → length ss < length xs → b.count < b.pos
-spare d f lt = omega (arith, d.count, d.on, f.room)
-
 pub long_prefix : (x : Prefix) → 1 ≤ length (spelled x)
 long_prefix turn = omega arith
 long_prefix mirror = omega arith
 long_prefix (zoom d) = omega arith
 
-pub room_after : {xs : List ℕ} {c : Cat} {l : ℕ} {a b d : Reader} → 1 ≤ length xs → Fit a → Took xs a b → Got c l b d → d.count < d.pos
-room_after {xs} {b = b} n f t g = omega (arith, g.did.count, g.did.on, t.did.count, t.did.on, f.room, fewer g.tree b.pos)
+pub room_after : {xs : List ℕ} {c : Cat} {l : ℕ} {a b d : Reader} → 1 ≤ length xs → Took xs a b → Got c l b d → d.recipe.count < d.pos
+room_after {xs} {a = a} {b = b} n t g = omega (arith, g.did.count, g.did.on, t.did.count, t.did.on, a.room, fewer g.tree b.pos)
 
-pub room_more : {c : Cat} {l : ℕ} {a b : Reader} → a.count < a.pos → Got c l a b → b.count < b.pos
+pub room_more : {c : Cat} {l : ℕ} {a b : Reader} → a.recipe.count < a.pos → Got c l a b → b.recipe.count < b.pos
 room_more {a = a} h g = omega (arith, g.did.count, g.did.on, fewer g.tree a.pos)

@@ -152,4 +152,4 @@ one_answer src (Err f) (Err g) p q = same_fault src f g p q
 
 pub accepted_exactly : AcceptedExactly
 accepted_exactly src (Ok r) o = (λ e. (o.short, (o.tree, o.spells)), λ s. refl)
-accepted_exactly src (Err f) o = (λ e. absurd (let z : ◌≡◌ {A = ℕ} 0 1 = cc in omega arith), λ s. absurd (not_refused src f s o))
+accepted_exactly src (Err f) o = (λ e. cc, λ s. absurd (not_refused src f s o))

@@ -1,11 +1,11 @@
 -- The machine reads the text of each tree, and so the tree of a text is one.
-use Rattle.std.proofs.Common.{◌≡◌, ℕ, List, [], ◌∷◌, ◌++◌, Some, None, Option, sym, refl, ap, ◌∙◌, arith}
+use Rattle.std.proofs.Common.{◌≡◌, ℕ, List, [], ◌∷◌, ◌++◌, Some, None, Option, sym, refl, ap, ◌∙◌}
 use Rattle.recipe.specs.declared.place.Place.{Place}
-use Rattle.recipe.specs.declared.place.Place.TheVariants.{A, B, C, D, E, F, G, H}
 use Rattle.picture.specs.declared.quadrant.Quadrant.TheVariants.{UpperLeft, UpperRight, LowerLeft, LowerRight}
 use Rattle.recipe.specs.Places.{letter}
 use Rattle.recipe.specs.Trees.{Cat, sum, product, part, closed, line, script, Prefix, turn, mirror, zoom, Tree, one, plus, single, times, name, prefixed, round, pieces, closes, row, blank, next, spelled, text}
 use Rattle.recipe.specs.Devices.Machine.{Around, in_line, in_round, in_first, in_second, in_third, in_fourth, State, begin, named, want, done, dead, join, mul, wrap, closer, shut, delta, run}
+use Rattle.recipe.proofs.Numbers.{each_place}
 
 pub run_++ : (σ : State) (xs ys : List ℕ) → run σ (xs ++ ys) ≡ run (run σ xs) ys
 run_++ σ [] ys = refl
@@ -20,24 +20,10 @@ pub through : (σ : State) {τ υ : State} (xs ys : List ℕ) → run σ xs ≡ 
 through σ {τ} {υ} xs ys p q = run_++ σ xs ys ∙ ap (λ v. run v ys) p ∙ q
 
 pub delta_name : (k : Place) (o : List Prefix) (m : Option (Tree product)) (s : Option (Tree sum)) (c : Around) → delta (want o m s c) (letter k) ≡ done (mul m (wrap o (name k))) s c
-delta_name A o m s c = refl
-delta_name B o m s c = refl
-delta_name C o m s c = refl
-delta_name D o m s c = refl
-delta_name E o m s c = refl
-delta_name F o m s c = refl
-delta_name G o m s c = refl
-delta_name H o m s c = refl
+delta_name k o m s c = each_place (λ k. delta (want o m s c) (letter k) ≡ done (mul m (wrap o (name k))) s c) refl refl refl refl refl refl refl refl k
 
 pub delta_target : (k : Place) (s : Tree script) → delta (begin s) (letter k) ≡ named s k
-delta_target A s = refl
-delta_target B s = refl
-delta_target C s = refl
-delta_target D s = refl
-delta_target E s = refl
-delta_target F s = refl
-delta_target G s = refl
-delta_target H s = refl
+delta_target k s = each_place (λ k. delta (begin s) (letter k) ≡ named s k) refl refl refl refl refl refl refl refl k
 
 pub run_prefix : (x : Prefix) (o : List Prefix) (m : Option (Tree product)) (s : Option (Tree sum)) (c : Around) → run (want o m s c) (spelled x) ≡ want (x ∷ o) m s c
 run_prefix turn o m s c = refl
@@ -106,7 +92,7 @@ pub unique : (t u : Tree script) → text t ≡ text u → t ≡ u
 unique t u e = let p : begin t ≡ begin u = sym (walk t) ∙ ap (run (begin blank)) e ∙ walk u in cc
 
 dead_begin : (t : Tree script) → dead ≡ begin t → ⊥
-dead_begin t e = let z : ◌≡◌ {A = ℕ} 0 1 = cc in omega arith
+dead_begin t e = cc
 
 -- no script begins with codes that stop the machine
 pub none_begins : (xs : List ℕ) (b : ℕ) (ys : List ℕ) → delta (run (begin blank) xs) b ≡ dead → (t : Tree script) → text t ≡ xs ++ b ∷ ys → ⊥

@@ -1,5 +1,6 @@
 -- The eight places, their numbers and their letters.
-use Rattle.std.specs.Prelude.{ℕ, zero, suc, ◌+◌, Some, None, Option}
+use Rattle.std.specs.Prelude.{◌≡◌, ℕ, zero, suc, ◌+◌, Some, None, Option, Result, MatchResult}
+use Rattle.recipe.specs.declared.place.NoPlace.{NoPlace}
 use Rattle.recipe.specs.declared.place.Place.{Place}
 use Rattle.recipe.specs.declared.place.Place.TheVariants.{A, B, C, D, E, F, G, H}
 
@@ -25,6 +26,10 @@ place (suc (suc (suc (suc (suc zero))))) = Some F
 place (suc (suc (suc (suc (suc (suc zero)))))) = Some G
 place (suc (suc (suc (suc (suc (suc (suc zero))))))) = Some H
 place (suc (suc (suc (suc (suc (suc (suc (suc n)))))))) = None
+
+-- the place with a number, or the number where it has none
+abbrev pub Decodes : ℕ → Result Place NoPlace → Type 0
+Decodes n r = MatchResult r (λ p. place n ≡ Some p) (λ e. (e.0 ≡ n) × (place n ≡ None))
 
 -- the byte of a place's letter: 'A' is 65
 abbrev pub letter : Place → ℕ

@@ -1,9 +1,12 @@
 //! Why a script is refused.
-ghost use Rattle.std.specs.Prelude.{◌≡◌};
-ghost use Rattle.recipe.specs.Faults.{coded};
+ghost use Rattle.std.specs.Prelude.{◌≡◌, Some};
+ghost use Rattle.recipe.specs.Faults.{coded, text};
+
+use std::error::Error;
+use std::fmt;
 
 /// Why a script is refused; the last three carry the index of the byte.
-#[derive(Clone, Copy, Debug, PartialEq)]
+#[derive(Clone, Copy, Debug, PartialEq, Eq)]
 pub enum Fault {
     /// More bytes than a script may have.
     TooLong,
@@ -17,6 +20,7 @@ pub enum Fault {
 
 impl Fault {
     /// The refusal's number.
+    // A refusal is more than its number, and no number makes one: a method, and no conversion.
     pub fn number(self) -> u8
         ensures { result ≡ (coded self).0 }
     {
@@ -34,9 +38,23 @@ impl Fault {
     {
         match self {
             Fault::TooLong => None,
-            Fault::Grammar(i) => Some(i),
-            Fault::Level(i) => Some(i),
-            Fault::Waiting(i) => Some(i),
+            Fault::Grammar(i) | Fault::Level(i) | Fault::Waiting(i) => Some(i),
         }
     }
 }
+
+// By hand: what a derive of `thiserror` writes promises nothing of the text.
+impl fmt::Display for Fault {
+    ghost output = { λ f. Some (text f) };
+
+    fn fmt<W: fmt::Write>(&self, f: &mut fmt::Formatter<W>) -> fmt::Result {
+        f.write_str(match self {
+            Fault::TooLong => "more than 512 bytes",
+            Fault::Grammar(_) => "a byte or an end that the grammar does not allow",
+            Fault::Level(_) => "a level above 16",
+            Fault::Waiting(_) => "a seventh waiting picture",
+        })
+    }
+}
+
+impl Error for Fault {}

@@ -15,7 +15,7 @@ mod theorems;
 
 pub use fault::Fault;
 pub use limits::{MAX_BYTES, MAX_LEVEL, MAX_WAITING};
-pub use place::Place;
+pub use place::{NoPlace, Place};
 pub use reader::read;
 pub use step::{Recipe, Step};
 pub use theorems::{

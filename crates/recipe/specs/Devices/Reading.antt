@@ -1,5 +1,5 @@
 -- A device of the proofs, which no public contract cites: what each private reader does to a `Reader`.
-use Rattle.std.specs.Prelude.{◌≡◌, ℕ, ◌+◌, ◌<◌, ◌≤◌, Bool, true, false, List, [], ◌∷◌, ◌++◌, length, take, drop, Some, None, Ok, Err, Option, Result, ◌≢◌}
+use Rattle.std.specs.Prelude.{◌≡◌, ℕ, ◌+◌, ◌<◌, ◌≤◌, Bool, true, false, List, [], ◌∷◌, ◌++◌, length, map, drop, slice_get, Some, None, Ok, Err, Option, Result, ◌≢◌}
 use Rattle.picture.specs.declared.quadrant.Quadrant.{Quadrant}
 use Rattle.picture.specs.Quadrants.{digit}
 use Rattle.recipe.specs.declared.fault.Fault.{Fault}
@@ -12,14 +12,13 @@ use Rattle.recipe.specs.declared.reader.grammar.Start.TheVariants.{Ahead, Bracke
 use Rattle.recipe.specs.declared.reader.Reader.{Reader}
 use Rattle.recipe.specs.declared.step.Step.{Step}
 use Rattle.recipe.specs.Trees.{Prefix, spelled, Cat, sum, product, part, closed, line, script, Tree, text}
-use Rattle.recipe.specs.Steps.{step_of, steps}
-use Rattle.recipe.specs.Limits.{max_bytes, max_level, max_waiting, Byte, counted, Within}
+use Rattle.recipe.specs.Steps.{step_of, steps, listed}
+use Rattle.recipe.specs.Limits.{max_level, max_waiting, Byte, counted, Within}
 use Rattle.recipe.specs.Devices.Machine.{Around, zooming, State, run, Blocked, Opens, name_of, digit_of}
 
 -- the first byte of a list, if it has one
 abbrev pub first : List ℕ → Option ℕ
-first [] = None
-first (b ∷ bs) = Some b
+first bs = slice_get bs 0
 
 -- the place that it names, and the quadrant whose digit it is
 abbrev pub name_at : List ℕ → Option Place
@@ -35,22 +34,14 @@ abbrev pub left : Reader → List ℕ
 left a = drop a.pos a.src.now
 
 abbrev pub made : Reader → List Step
-made a = take a.count a.steps
-
-pub record Fit (a : Reader) : Type 0 where
-  pub inside : a.pos ≤ length a.src.now
-  pub short : length a.src.now ≤ max_bytes
-  pub room : a.count ≤ a.pos
-  pub waits : a.waiting ≤ max_waiting
-  pub long : length a.steps ≡ max_bytes
+made a = listed a.recipe
 
 -- from a to b the bytes xs were read, and the steps ss were added
 pub record Did (xs : List ℕ) (ss : List Step) (a b : Reader) : Type 0 where
   pub same : b.src.now ≡ a.src.now
-  pub fit : Fit b
   pub split : left a ≡ xs ++ left b
   pub on : b.pos ≡ a.pos + length xs
-  pub count : b.count ≡ a.count + length ss
+  pub count : b.recipe.count ≡ a.recipe.count + length ss
   pub adds : made b ≡ made a ++ ss
 
 pub record Took (xs : List ℕ) (a b : Reader) : Type 0 where
@@ -81,6 +72,11 @@ opener Caret = 94
 opener Round = 40
 opener Square = 91
 
+-- the opening whose byte stands first, if one does
+abbrev pub OpeningAt : List ℕ → Option Opening → Type 0
+OpeningAt bs None = (o : Opening) → first bs ≢ Some (opener o)
+OpeningAt bs (Some o) = first bs ≡ Some (opener o)
+
 abbrev pub gain : Cat → ℕ
 gain sum = 1
 gain product = 1
@@ -107,8 +103,7 @@ Ends script o = Unit {0}
 
 -- the codes of bytes
 abbrev pub codes : List Byte → List ℕ
-codes [] = []
-codes (m ∷ ms) = m.code ∷ codes ms
+codes ms = map (λ m. m.code) ms
 
 -- why reading a tree of category c ends before `rest`: xs was read of it, and the byte m could follow
 abbrev pub Because : Cat → List ℕ → Byte → List ℕ → Fault → Type 0

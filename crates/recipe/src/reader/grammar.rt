@@ -1,10 +1,10 @@
 //! A reader for each category of the grammar.
 ghost use Rattle.std.specs.Prelude.{◌≡◌, ℕ, ◌<◌, ◌≤◌, length, Some, None};
 ghost use Rattle.recipe.specs.Trees.{sum, product, part, closed, line};
-ghost use Rattle.recipe.specs.Limits.{max_level};
-ghost use Rattle.recipe.specs.Devices.Reading.{left, name_at, Fit, Reads, Opened, Starts, Digits, Whole};
+ghost use Rattle.recipe.specs.Devices.Reading.{left, name_at, OpeningAt, Reads, Opened, Starts, Digits, Whole};
 
 use super::Reader;
+use super::depth::Depth;
 use crate::fault::Fault;
 use crate::limits::{MAX_LEVEL, MAX_WAITING};
 use crate::place::Place;
@@ -30,36 +30,37 @@ enum Start {
 }
 
 impl Reader<'_> {
-    /// The byte that opens a part, inside `around` others that are not plain places.
-    fn opening(&mut self, around: usize) -> Result<Opening, Fault>
-        requires fit { Fit self.old }
-        requires deep { around ≤ max_level }
-        requires other { name_at (left self.old) ≡ None }
-        ensures { Opened around self.old self.new result }
+    /// The opening that the next byte is, if it is one.
+    fn peek_opening(&self) -> Option<Opening>
+        ensures { OpeningAt (left self.now) result }
     {
-        let at = self.pos;
-        let opening = if self.take(b'@') {
-            Opening::At
-        } else if self.take(b'|') {
-            Opening::Bar
-        } else if self.take(b'^') {
-            Opening::Caret
-        } else if self.take(b'(') {
-            Opening::Round
-        } else if self.take(b'[') {
-            Opening::Square
-        } else {
-            return Err(Fault::Grammar(at));
-        };
-        if around >= MAX_LEVEL {
-            return Err(Fault::Level(at));
+        match self.peek()? {
+            b'@' => Some(Opening::At),
+            b'|' => Some(Opening::Bar),
+            b'^' => Some(Opening::Caret),
+            b'(' => Some(Opening::Round),
+            b'[' => Some(Opening::Square),
+            _ => None,
         }
+    }
+
+    /// The byte that opens a part, inside as many others as `depth` says.
+    fn opening(&mut self, depth: Depth) -> Result<Opening, Fault>
+        requires { name_at (left self.old) ≡ None }
+        ensures { Opened depth.around self.old self.new result }
+    {
+        let Some(opening) = self.peek_opening() else {
+            return Err(Fault::Grammar(self.pos));
+        };
+        if depth.around >= MAX_LEVEL {
+            return Err(Fault::Level(self.pos));
+        }
+        self.pos += 1;
         Ok(opening)
     }
 
     /// The digit behind a '^'.
     fn digit(&mut self) -> Result<Quadrant, Fault>
-        requires { Fit self.old }
         ensures { Digits self.old self.new result }
     {
         let Some(quadrant) = self.peek_quadrant() else {
@@ -70,13 +71,11 @@ impl Reader<'_> {
     }
 
     /// The start of a part that is not a plain place.
-    fn start(&mut self, around: usize) -> Result<Start, Fault>
-        requires fit { Fit self.old }
-        requires deep { around ≤ max_level }
-        requires other { name_at (left self.old) ≡ None }
-        ensures { Starts around self.old self.new result }
+    fn start(&mut self, depth: Depth) -> Result<Start, Fault>
+        requires { name_at (left self.old) ≡ None }
+        ensures { Starts depth.around self.old self.new result }
     {
-        match self.opening(around)? {
+        match self.opening(depth)? {
             Opening::At => Ok(Start::Ahead(Step::Turn)),
             Opening::Bar => Ok(Start::Ahead(Step::Mirror)),
             Opening::Caret => {
@@ -90,7 +89,6 @@ impl Reader<'_> {
 
     /// A place on a right side, which the next byte names.
     fn name(&mut self, place: Place) -> Result<(), Fault>
-        requires fit { Fit self.old }
         requires named { name_at (left self.old) ≡ Some place }
         ensures { (l : ℕ) → Reads part l self.old self.new result }
     {
@@ -104,26 +102,28 @@ impl Reader<'_> {
 
     /// A part: a place, or what starts with one of the opening bytes.
     #[cycle(closed_part_product_sum)]
-    fn part(&mut self, around: usize) -> Result<(), Fault>
-        requires fit { Fit self.old }
-        requires deep { around ≤ max_level }
-        ensures { Reads part around self.old self.new result }
+    fn part(&mut self, depth: Depth) -> Result<(), Fault>
+        ensures { Reads part depth.around self.old self.new result }
     {
         if let Some(place) = self.peek_place() {
             return self.name(place);
         }
-        match self.start(around)? {
+        let start = self.start(depth)?;
+        let inside = Depth {
+            around: depth.around + 1,
+        };
+        match start {
             Start::Ahead(step) => {
-                self.part(around + 1)?;
+                self.part(inside)?;
                 self.push(step, self.waiting);
                 Ok(())
             }
-            Start::Bracket => self.closed(around + 1, b')'),
+            Start::Bracket => self.closed(inside, b')'),
             Start::Pieces => {
-                self.closed(around + 1, b',')?;
-                self.closed(around + 1, b',')?;
-                self.closed(around + 1, b',')?;
-                self.closed(around + 1, b']')?;
+                self.closed(inside, b',')?;
+                self.closed(inside, b',')?;
+                self.closed(inside, b',')?;
+                self.closed(inside, b']')?;
                 self.push(Step::Piece(self.pos - 1), self.waiting - 3);
                 Ok(())
             }
@@ -131,16 +131,15 @@ impl Reader<'_> {
     }
 
     /// A product: parts joined by '*', carried out from the left.
+    // Beside `sum`, and not one function with it: each category of the grammar has its reader and its contract.
     #[cycle(closed_part_product_sum)]
-    fn product(&mut self, around: usize) -> Result<(), Fault>
-        requires fit { Fit self.old }
-        requires deep { around ≤ max_level }
-        ensures { Reads product around self.old self.new result }
+    fn product(&mut self, depth: Depth) -> Result<(), Fault>
+        ensures { Reads product depth.around self.old self.new result }
     {
-        self.part(around)?;
+        self.part(depth)?;
         while self.take(b'*') {
             let mark = self.pos - 1;
-            self.part(around)?;
+            self.part(depth)?;
             self.push(Step::Multiply(mark), self.waiting - 1);
         }
         Ok(())
@@ -148,15 +147,13 @@ impl Reader<'_> {
 
     /// A sum: products joined by '+', carried out from the left.
     #[cycle(closed_part_product_sum)]
-    fn sum(&mut self, around: usize) -> Result<(), Fault>
-        requires fit { Fit self.old }
-        requires deep { around ≤ max_level }
-        ensures { Reads sum around self.old self.new result }
+    fn sum(&mut self, depth: Depth) -> Result<(), Fault>
+        ensures { Reads sum depth.around self.old self.new result }
     {
-        self.product(around)?;
+        self.product(depth)?;
         while self.take(b'+') {
             let mark = self.pos - 1;
-            self.product(around)?;
+            self.product(depth)?;
             self.push(Step::Add(mark), self.waiting - 1);
         }
         Ok(())
@@ -164,18 +161,15 @@ impl Reader<'_> {
 
     /// A sum and the byte behind it.
     #[cycle(closed_part_product_sum)]
-    fn closed(&mut self, around: usize, end: u8) -> Result<(), Fault>
-        requires fit { Fit self.old }
-        requires deep { around ≤ max_level }
-        ensures { Reads (closed end) around self.old self.new result }
+    fn closed(&mut self, depth: Depth, end: u8) -> Result<(), Fault>
+        ensures { Reads (closed end) depth.around self.old self.new result }
     {
-        self.sum(around)?;
+        self.sum(depth)?;
         self.expect(end)
     }
 
     /// A line: a place, '=', a sum, and byte 10.
     fn line(&mut self) -> Result<(), Fault>
-        requires fit { Fit self.old }
         requires more { self.old.pos < length self.old.src.now }
         ensures { Reads line 0 self.old self.new result }
     {
@@ -184,18 +178,16 @@ impl Reader<'_> {
         };
         self.pos += 1;
         self.expect(b'=')?;
-        self.closed(0, b'\n')?;
+        self.closed(Depth { around: 0 }, b'\n')?;
         self.push(Step::Store(target), self.waiting - 1);
         Ok(())
     }
 
     /// A whole script: lines up to its end.
     pub(super) fn script(&mut self) -> Result<(), Fault>
-        requires fit { Fit self.old }
-        requires begin { self.old.pos ≡ 0 }
         ensures { Whole self.old self.new result }
     {
-        while self.pos < self.src.len() {
+        while self.peek().is_some() {
             self.line()?;
         }
         Ok(())

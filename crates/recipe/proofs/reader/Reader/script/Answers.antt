@@ -1,17 +1,13 @@
-use Rattle.std.proofs.Common.{length, ap, arith}
-use Rattle.std.proofs.lemmas.List.{drop_all}
+use Rattle.std.proofs.Common.{rules}
 use Rattle.std.proofs.lemmas.Result.{err_from_is_err_and}
-use Rattle.recipe.proofs.Lines.{got_blank, got_next, lost_next, long_line}
+use Rattle.recipe.proofs.Lines.{got_blank, got_next, lost_next, smaller, none_left}
 use Rattle.recipe.proofs.reader.Reader.script.Goals as goal
 
 pub loop-self-init : goal.loop-self-init
-loop-self-init c = got_blank c.requires.fit
+loop-self-init c = got_blank
 
 pub loop-self-smaller : goal.loop-self-smaller
-loop-self-smaller c =
-    let g = c.in_ok-line.ensures.0 in
-    let i = c.loop-self.invariant in
-    omega (arith, g.did.on, long_line g.tree, g.did.fit.inside, ap length g.did.same, ap length i.did.same)
+loop-self-smaller c = smaller c.loop-self.invariant c.in_ok-line.ensures.0
 
 pub loop-self-preserved : goal.loop-self-preserved
 loop-self-preserved c = got_next c.loop-self.invariant c.in_ok-line.ensures.0
@@ -22,4 +18,4 @@ returns-in_err-line c =
     rw (p.1, p.2) (lost_next c.loop-self.invariant c.in_err-line.ensures)
 
 pub returns : goal.returns
-returns c = (c.loop-self.invariant, drop_all _ _ c.loop-self-test.false)
+returns c = (c.loop-self.invariant, none_left _ (search rules))

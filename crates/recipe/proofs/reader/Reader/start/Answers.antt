@@ -10,7 +10,7 @@ returns-in_err-quadrant-in-Caret c =
     let p = err_from_is_err_and c.from_residual-in_err-quadrant-in-Caret.result c.from_residual-in_err-quadrant-in-Caret.ensures.1 in
     let t = c.in_ok-opening.ensures in
     let h = c.in_err-quadrant-in-Caret.ensures in
-    rw (p.1, p.2) (lost_zoom c.requires.fit t.1 (took_is c.in-Caret.is t.0) h.1 h.0)
+    rw (p.1, p.2) (lost_zoom t.1 (took_is c.in-Caret.is t.0) h.1 h.0)
 
 pub returns-in_ok-quadrant-in-Caret : goal.returns-in_ok-quadrant-in-Caret
 returns-in_ok-quadrant-in-Caret c =
