@@ -1,13 +1,13 @@
 //! Why a call is refused: each fault holds the fault of the layer below whole.
 ghost use Rattle.std.specs.Prelude.{◌≡◌};
 ghost use Rattle.book.specs.Refusals.{coded};
-ghost use Rattle.book.specs.declared.refusal.Refusal.TheVariants.{NotEntered, NotRun, NotWritten, NotPrinted};
+ghost use Rattle.book.specs.declared.refusal.Refusal.TheVariants.{NoPlace, NotEntered, NotRun, NotWritten, NotPrinted};
 ghost use Rattle.book.specs.declared.refusal.RunFault.TheVariants.{Unread, Stopped};
 
 use stack::LineFault;
 
 /// Why a run is refused.
-#[derive(Clone, Copy)]
+#[derive(Clone, Copy, Debug, PartialEq, Eq)]
 pub enum RunFault {
     /// The script cannot be read.
     Unread(recipe::Fault),
@@ -16,7 +16,7 @@ pub enum RunFault {
 }
 
 /// Why a call is refused.
-#[derive(Clone, Copy)]
+#[derive(Clone, Copy, Debug, PartialEq, Eq)]
 pub enum Refusal {
     /// The memory has too few weights.
     ShortMemory,
@@ -56,6 +56,14 @@ impl From<RunFault> for Refusal {
     }
 }
 
+impl From<recipe::NoPlace> for Refusal {
+    ghost from_gives = { λ _ r. r ≡ NoPlace };
+
+    fn from(_number: recipe::NoPlace) -> Refusal {
+        Self::NoPlace
+    }
+}
+
 impl From<words::Fault> for Refusal {
     ghost from_gives = { λ f r. r ≡ NotEntered f };
 
@@ -82,6 +90,7 @@ impl From<tile::Fault> for Refusal {
 
 impl Refusal {
     /// The refusal's number, 1 to 16.
+    // A refusal is more than its number, and no number makes one: a method, and no conversion.
     pub fn number(self) -> u8
         ensures { result ≡ (coded self).number }
     {

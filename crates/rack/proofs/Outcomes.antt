@@ -1,16 +1,13 @@
 -- The outcome of a call, from what the layers below answer.
-use Rattle.std.proofs.Common.{◌≡◌, ℕ, ◌<◌, ◌≤◌, Bool, true, false, cond, eqb, ltb, List, ◌++◌, map, length, take, drop, Some, None, Ok, Err, Option, Result, sym, refl, ap, ◌∙◌, subst, arith, length-append, length-drop, MatchOption}
-use Rattle.std.proofs.lemmas.List.{take_at, drop_at}
+use Rattle.std.proofs.Common.{◌≡◌, ℕ, ◌+◌, ◌<◌, ◌≤◌, Bool, true, false, cond, ltb, List, ◌++◌, map, length, take, drop, Some, None, Ok, Err, Option, Result, sym, refl, ap, ◌∙◌, subst, arith, length-append, length-drop, MatchOption}
+use Rattle.std.proofs.Math.Seq.{drop-append-add}
+use Rattle.std.proofs.lemmas.List.{take_at}
+use Rattle.std.proofs.lemmas.Slice.{drop-append-drop}
 use Rattle.weight.specs.Kinds.{Kind}
 use Rattle.weight.specs.Words.{Writing}
 use Rattle.picture.specs.Bodies.{Body}
-use Rattle.picture.specs.declared.body.Record.{Record}
-use Rattle.recipe.proofs.Numbers.{one_place}
-use Rattle.std.proofs.lemmas.Bool.{eqb-true}
-use Rattle.table.specs.Tables.{record_of}
-use Rattle.table.specs.declared.table.Table.{Table}
 use Rattle.picture.specs.Cells.{tile}
-use Rattle.picture.specs.Pictures.{Picture, picture}
+use Rattle.picture.specs.Pictures.{picture}
 use Rattle.words.specs.Calls.{Wrote}
 use Rattle.words.specs.Faults.{Refused, Unwritten}
 use Rattle.words.specs.Format.{words_of, SpellsBody}
@@ -21,7 +18,7 @@ use Rattle.tile.specs.Outcomes.{Printed, Refused as NotTile}
 use Rattle.tile.specs.declared.printing.Fault.{Fault as TileFault}
 use Rattle.tile.specs.declared.printing.Fault.TheVariants.{NoTile, ShortOutput}
 use Rattle.recipe.specs.Evaluations.{put}
-use Rattle.recipe.specs.Places.{number, place}
+use Rattle.recipe.specs.Places.{place}
 use Rattle.recipe.specs.declared.place.Place.{Place}
 use Rattle.stack.specs.Drawing.{blank}
 use Rattle.book.specs.Calls.{Enter, Clear, Write, Print, Nothing, Words, Cells, Outcome, Places, answers, refused, Enters, entered, not_entered, Writes, too_wide, too_short, written, Prints, no_tile, no_room, printed, with_memory, at_place, Rules}
@@ -39,9 +36,11 @@ never p = let z : ◌≡◌ {A = ℕ} 0 1 = cc in absurd (omega arith)
 same_ok : {X E : Type 0} {x y : X} → ◌≡◌ {A = Result X E} (Ok x) (Ok y) → x ≡ y
 same_ok p = cc
 
--- a buffer past what is written to its front
-pub rest_kept : {X : Type 0} (front out out' : List X) (count : ℕ) → count ≡ length front → out' ≡ front ++ drop count out → drop count out' ≡ drop count out
-rest_kept front out out' count counted wrote = ap (drop count) wrote ∙ drop_at front (drop count out) count (sym counted)
+-- a write to the scratch behind the places' bays leaves what lies beyond the memory
+pub past_scratch : {X : Type 0} (memory bays work scratch : List X) → memory ≡ bays ++ work → length bays ≡ 5120 → length scratch ≡ 2688 → drop 10240 (bays ++ (scratch ++ drop 2688 work)) ≡ drop 10240 memory
+past_scratch {X} memory bays work scratch split front full =
+    let past : (zs : List X) → drop 10240 (bays ++ zs) ≡ drop 5120 zs = λ zs. subst (λ n. drop (n + 5120) (bays ++ zs) ≡ drop 5120 zs) front (drop-append-add bays zs 5120) in
+    past (scratch ++ drop 2688 work) ∙ drop-append-drop 2688 work scratch 5120 (omega arith) full ∙ sym (past work) ∙ ap (drop 10240) (sym split)
 
 -- if the buffer is as long as before, what was written to its front is as much as was counted
 pub front_counted : {X : Type 0} (front out out' : List X) (count : ℕ) → length out' ≡ length out → count ≤ length out → out' ≡ front ++ drop count out → count ≡ length front
@@ -49,27 +48,6 @@ front_counted front out out' count kept fits wrote = let whole = ap length wrote
 
 taken : {X : Type 0} (front out out' : List X) (count : ℕ) → length out' ≡ length out → count ≤ length out → out' ≡ front ++ drop count out → take count out' ≡ front
 taken front out out' count kept fits wrote = ap (take count) wrote ∙ take_at front (drop count out) count (sym (front_counted front out out' count kept fits wrote))
-
--- of a tile that is not printed no cell is written
-pub refused_kept : {W : Type 0} (f : Picture W) (depth digits prefix : ℕ) (out out' : List W) (fault : TileFault) → NotTile f depth digits prefix out out' fault → out' ≡ out
-refused_kept f depth digits prefix out out' NoTile (not, kept) = kept
-refused_kept f depth digits prefix out out' ShortOutput (printable, short, kept) = kept
-
-found_if : (p : Place) (test : Bool) (q : Option Place) → cond test (Err ShortMemory) (or_none q) ≡ Ok p → q ≡ Some p
-found_if p true q is = never is
-found_if p false None is = never is
-found_if p false (Some r) is = ap Some (same_ok is)
-
-elsewhere : (t : Place → Record) (p q : Place) (r : Record) → (q ≡ p → ⊥) → (test : Bool) → eqb (number q) (number p) ≡ test → cond test r (t q) ≡ t q
-elsewhere t p q r ne true e = absurd (ne (one_place q p (eqb-true (number q) (number p) e)))
-elsewhere t p q r ne false e = refl
-
--- a record that is put at the place with the number n leaves the others
-pub others_stay : (t u : Table) (p : Place) (r : Record) → record_of u ≡ put p r (record_of t) → (memory n : ℕ) → Ok p ≡ named memory n
-    → (q : Place) → (place n ≡ Some q → ⊥) → record_of u q ≡ record_of t q
-others_stay t u p r is memory n found q ne =
-    let there : place n ≡ Some p = found_if p (ltb memory 10240) (place n) (sym found) in
-    (λ i. is i q) ∙ elsewhere (record_of t) p q r (λ e. ne (there ∙ ap Some (sym e))) (eqb (number q) (number p)) refl
 
 module _ {W : Type 0} (k : Kind W) (v : Writing W) (at : Places W) where
   at_found : (T : Place → Type 0) (o : Outcome W) (p : Place) (test : Bool) (q : Option Place) → cond test (Err ShortMemory) (or_none q) ≡ Ok p → T p

@@ -1,13 +1,10 @@
 -- The outcome of a run, from what the reader of scripts and the table answer.
-use Rattle.std.proofs.Common.{◌≡◌, ℕ, ◌+◌, ◌*◌, ◌≤◌, cond, List, [], ◌++◌, length, take, drop, Some, None, Ok, Err, Option, Result, sym, refl, ap, ◌∙◌, subst, arith}
-use mathlib.Core.Path.{fun_ext}
+use Rattle.std.proofs.Common.{◌≡◌, ℕ, ◌≤◌, cond, List, [], ◌++◌, length, take, drop, Some, None, Ok, Err, Option, Result, sym, refl, ap, ◌∙◌, subst, arith}
 use Rattle.std.specs.List.{between}
-use Rattle.std.proofs.lemmas.List.{length-take-le, take-append-drop, take-append-le}
-use Rattle.std.proofs.lemmas.Slice.{between_is}
+use Rattle.std.proofs.lemmas.List.{length-take-le, take-append-drop}
 use Rattle.std.proofs.lemmas.Bool.{le-ltb}
 use Rattle.weight.specs.Kinds.{Kind, Laws}
 use Rattle.weight.specs.Words.{Writing}
-use Rattle.picture.specs.Stored.{stored}
 use Rattle.recipe.specs.Evaluations.{carry, run_lines}
 use Rattle.recipe.specs.Expressions.{lines}
 use Rattle.recipe.specs.Outcomes.{Accepted}
@@ -15,16 +12,15 @@ use Rattle.recipe.specs.Steps.{Carries, listed}
 use Rattle.recipe.specs.Trees.{script, Tree, text}
 use Rattle.recipe.specs.declared.step.Recipe.{Recipe}
 use Rattle.recipe.specs.declared.step.Step.{Step}
-use Rattle.recipe.specs.Places.{number}
 use Rattle.recipe.proofs.Carried.{steps_carry}
-use Rattle.recipe.proofs.Numbers.{number_below}
 use Rattle.recipe.proofs.Stepping.{steps_agree}
 use Rattle.stack.specs.Drawing.{drawing}
 use Rattle.stack.specs.declared.fault.LineFault.{LineFault}
 use Rattle.stack.specs.declared.fault.StepFault.{StepFault}
 use Rattle.table.specs.Performing.{lines_done, Performed}
-use Rattle.table.specs.Tables.{record_of, body_of}
+use Rattle.table.specs.Tables.{body_of}
 use Rattle.table.specs.declared.table.Table.{Table}
+use Rattle.table.proofs.Bodies.{front_bodies}
 use Rattle.book.specs.Calls as book
 use Rattle.book.specs.Calls.{Places, Nothing, Outcome, Run, refused, ran, Runs, performed, Rules}
 use Rattle.book.specs.Statements.{AllLimited, PrintsAlike}
@@ -71,23 +67,11 @@ module _ {W : Type 0} (k : Kind W) (v : Writing W) (at : Places W) where
   runs_alike laws limited memory src r after rules i t ok is =
       law_equal_scripts k v laws at limited memory i t (came_to r Nothing after) (subst (λ (s : List ℕ). Rules k v at memory (Run s) (came_to r Nothing after)) (sym is) rules) ok
 
--- what lies past the bays has no part in the bodies
-pub front_bodies : {W : Type 0} (t : Table) (xs ys : List W) → 5120 ≤ length xs → body_of t (xs ++ ys) ≡ body_of t xs
-front_bodies t xs ys long =
-    fun_ext (λ p.
-    let low = number_below p in
-    let a = 640 * number p in
-    let fits : a + 640 ≤ length xs = omega arith in
-    ap (stored (record_of t p)) (between_is (xs ++ ys) a (a + 640) ∙ ap (drop a) (take-append-le (a + 640) xs ys fits) ∙ sym (between_is xs a (a + 640))))
-
--- nor for a memory that is cut to its bays
+-- the bodies of a memory that is cut to its bays
 pub cut_bodies : {W : Type 0} (t : Table) (memory : List W) → 10240 ≤ length memory → body_of t (between 0 10240 memory) ≡ body_of t memory
 cut_bodies t memory long =
     let e = length-take-le 10240 memory long in
     sym (front_bodies t (take 10240 memory) (drop 10240 memory) (omega arith)) ∙ ap (body_of t) (take-append-drop 10240 memory)
-
-pub none_is_some : {X T : Type 0} {x : X} → ◌≡◌ {A = Option X} (Some x) None → T
-none_is_some p = let z : ◌≡◌ {A = ℕ} 0 1 = cc in absurd (omega arith)
 
 -- a run on the bays of a memory
 pub run_on_bays : {W : Type 0} (k : Kind W) (v : Writing W) (t u : Table) (memory bays rest : List W) (src : List ℕ) (r : Result ℕ Refusal) → 10240 ≤ length memory → length bays ≡ 10240

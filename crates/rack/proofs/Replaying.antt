@@ -32,7 +32,7 @@ module _ {W : Type 0} where
   front_output (Run given) r words more cells rest low few = refl
   front_output (Clear n) r words more cells rest low few = refl
   front_output (Write n room) r words more cells rest low few = front_words r words more low
-  front_output (Print n depth digits prefix room) r words more cells rest low few = front_cells r cells rest few
+  front_output (Print n t room) r words more cells rest low few = front_cells r cells rest few
 
   none_left : (cs : List Call) (rs : List Answer) (words : List ℕ) (cells : List W) → (length cs ≡ 0) ⊎ (length rs ≡ 0) → events cs rs words cells ≡ []
   none_left [] rs words cells h = refl

@@ -16,7 +16,7 @@ asked (Enter n given) words cells = book.Enter n given.now
 asked (Run given) words cells = book.Run given.now
 asked (Clear n) words cells = book.Clear n
 asked (Write n room) words cells = book.Write n (min room words)
-asked (Print n depth digits prefix room) words cells = book.Print n depth digits prefix (min room cells)
+asked (Print n t room) words cells = book.Print n t.depth t.digits t.prefix (min room cells)
 
 -- how many words it wrote
 abbrev pub words_used : Call → Result ℕ Refusal → ℕ
@@ -24,7 +24,7 @@ words_used (Enter n given) r = 0
 words_used (Run given) r = 0
 words_used (Clear n) r = 0
 words_used (Write n room) r = amount r
-words_used (Print n depth digits prefix room) r = 0
+words_used (Print n t room) r = 0
 
 -- how many cells it wrote
 abbrev pub cells_used : Call → Result ℕ Refusal → ℕ
@@ -32,7 +32,7 @@ cells_used (Enter n given) r = 0
 cells_used (Run given) r = 0
 cells_used (Clear n) r = 0
 cells_used (Write n room) r = 0
-cells_used (Print n depth digits prefix room) r = amount r
+cells_used (Print n t room) r = amount r
 
 -- what it left at the front of the buffers
 abbrev pub output_of : {W : Type 0} → Call → Result ℕ Refusal → (words : List ℕ) (cells : List W) → Output W
@@ -40,7 +40,7 @@ output_of (Enter n given) r words cells = Nothing
 output_of (Run given) r words cells = Nothing
 output_of (Clear n) r words cells = Nothing
 output_of (Write n room) r words cells = words_out r words
-output_of (Print n depth digits prefix room) r words cells = cells_out r cells
+output_of (Print n t room) r words cells = cells_out r cells
 
 -- the calls with their answers, as far as there are both, and with the outputs that the buffers hold
 abbrev pub events : {W : Type 0} → List Call → List (Result ℕ Refusal) → (words : List ℕ) (cells : List W) → List (Event W)

@@ -1,5 +1,7 @@
+use tile::Tile;
+
 /// A call with its arguments. A write and a print use at most `room` of what is left of their output buffer.
-#[derive(Clone, Copy)]
+#[derive(Clone, Copy, Debug, PartialEq, Eq)]
 pub enum Call<'a> {
     Enter {
         place: usize,
@@ -17,9 +19,7 @@ pub enum Call<'a> {
     },
     Print {
         place: usize,
-        depth: usize,
-        digits: usize,
-        prefix: usize,
+        tile: Tile,
         room: usize,
     },
 }

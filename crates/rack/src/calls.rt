@@ -3,21 +3,20 @@ ghost use Rattle.book.specs.Calls.{Enter, Clear, Write, Print, Nothing, Rules};
 ghost use Rattle.book.specs.Faith.{fresh};
 ghost use Rattle.book.specs.Statements.{WritesBack, EntersAs};
 ghost use Rattle.rack.specs.Racks.{places, came_to, amount, words_out, cells_out, named, OnlyAt};
+ghost use Rattle.picture.specs.Pictures.{picture};
+ghost use Rattle.tile.specs.Outcomes.{Outcome};
 
 use crate::rack::Rack;
 use book::Refusal;
 use picture::{BAY, BLANK};
 use recipe::Place;
 use std::marker::PhantomData;
-use table::Table;
-use tile::SCRATCH;
+use table::{PLACE_WEIGHTS, Table};
+use tile::{SCRATCH, Tile};
 use weight::Written;
 
 /// How many weights a call wants in its memory: eight bays for the places, eight to work in.
-pub(crate) const MEMORY: usize = 10240;
-
-/// Where the bays to work in begin.
-const WORK: usize = 8 * BAY;
+pub(crate) const MEMORY: usize = 16 * BAY;
 
 /// The place with a number, if the memory has enough weights.
 fn find(weights: usize, place: usize) -> Result<Place, Refusal>
@@ -27,13 +26,7 @@ fn find(weights: usize, place: usize) -> Result<Place, Refusal>
     if weights < MEMORY {
         return Err(Refusal::ShortMemory);
     }
-    let Ok(number) = u8::try_from(place) else {
-        return Err(Refusal::NoPlace);
-    };
-    match Place::from_number(number) {
-        Some(found) => Ok(found),
-        None => Err(Refusal::NoPlace),
-    }
+    Ok(Place::try_from(place)?)
 }
 
 impl<W: Written> Rack<W> {
@@ -55,7 +48,7 @@ impl<W: Written> Rack<W> {
         ensures back { (i : ℕ) → result ≡ Ok i → WritesBack W.kind W.writing (places self.new memory.new) place words.now }
     {
         let place = find(memory.len(), place)?;
-        let at = BAY * place.number() as usize;
+        let at = BAY * usize::from(place);
         let bay = &mut memory[at..at + BAY];
         let body = words::read(words, bay)?;
         self.table.put(place, body);
@@ -79,10 +72,7 @@ impl<W: Written> Rack<W> {
         ensures back { (i : ℕ) → result ≡ Ok i → EntersAs W.kind W.writing (places self.now memory.now) place (take i words.new) }
     {
         let place = find(memory.len(), place)?;
-        let at = BAY * place.number() as usize;
-        let body = self.table.record(place);
-        let count = words::write(body, &memory[at..at + BAY], words)?;
-        Ok(count)
+        Ok(words::write(self.table.body(place, memory), words)?)
     }
 
     /// Prints the cells of a tile of a place, and answers how many.
@@ -90,24 +80,31 @@ impl<W: Written> Rack<W> {
         &self,
         memory: &mut [W],
         place: usize,
-        depth: usize,
-        digits: usize,
-        prefix: usize,
+        tile: Tile,
         cells: &mut [W],
     ) -> Result<usize, Refusal>
-        ensures outcome { Rules W.kind W.writing (places self.now memory.old) (length memory.old) (Print place depth digits prefix (length cells.old)) (came_to result (cells_out result cells.new) (places self.now memory.new)) }
+        ensures outcome { Rules W.kind W.writing (places self.now memory.old) (length memory.old) (Print place tile.depth tile.digits tile.prefix (length cells.old)) (came_to result (cells_out result cells.new) (places self.now memory.new)) }
         ensures rest { drop (amount result) cells.new ≡ drop (amount result) cells.old }
         ensures beyond { drop 10240 memory.new ≡ drop 10240 memory.old }
     {
         let place = find(memory.len(), place)?;
-        let at = BAY * place.number() as usize;
-        let mut weights = [W::zero(); BAY];
-        let own = &mut weights[..];
-        own.copy_from_slice(&memory[at..at + BAY]);
-        let start = WORK;
-        let scratch = &mut memory[start..start + SCRATCH];
-        let body = self.table.record(place);
-        let count = tile::print(body, own, depth, digits, prefix, scratch, cells)?;
-        Ok(count)
+        let (bays, work) = memory.split_at_mut(PLACE_WEIGHTS);
+        Ok(self.print_tile(place, bays, tile, &mut work[0..SCRATCH], cells)?)
+    }
+
+    /// Prints the cells of a tile of a place, with weights to work in.
+    fn print_tile(
+        &self,
+        place: Place,
+        bays: &[W],
+        tile: Tile,
+        scratch: &mut [W],
+        cells: &mut [W],
+    ) -> Result<usize, tile::Fault>
+        requires bays { 5120 ≤ length bays.now }
+        requires scratch { length scratch.old ≡ 2688 }
+        ensures { Outcome (picture W.kind (places self.now bays.now place)) tile.depth tile.digits tile.prefix cells.old cells.new result }
+    {
+        tile::print(self.table.body(place, bays), tile, scratch, cells)
     }
 }

@@ -17,8 +17,7 @@ impl<W: Written> Rack<W> {
         ensures records { KeptUnread self.old self.new (run_answer result) }
     {
         let recipe = recipe::read(script)?;
-        let lines = self.table.perform(recipe.steps(), memory)?;
-        Ok(lines)
+        Ok(self.table.perform(recipe.steps(), memory)?)
     }
 
     /// Carries out a script, and answers how many lines it has.
@@ -31,8 +30,6 @@ impl<W: Written> Rack<W> {
         if memory.len() < MEMORY {
             return Err(Refusal::ShortMemory);
         }
-        let bays = &mut memory[0..MEMORY];
-        let lines = self.perform(bays, script)?;
-        Ok(lines)
+        Ok(self.perform(&mut memory[0..MEMORY], script)?)
     }
 }

@@ -1,5 +1,5 @@
 -- The bodies that wait in the working bays.
-use Rattle.std.specs.Prelude.{◌≡◌, ℕ, zero, suc, ◌+◌, ◌*◌, ◌<◌, ◌≤◌, List, [], ◌∷◌, Ok, Err, Result, MatchResult, slice_index_or}
+use Rattle.std.specs.Prelude.{◌≡◌, ℕ, zero, suc, ◌+◌, ◌*◌, ◌<◌, List, [], ◌∷◌, Ok, Err, Result, MatchResult, slice_index_or}
 use Rattle.std.specs.List.{between}
 use Rattle.picture.specs.Bodies.{Body}
 use Rattle.picture.specs.Stored.{stored, Kept}
@@ -7,7 +7,6 @@ use Rattle.picture.specs.declared.body.Record.{Record}
 use Rattle.compose.specs.declared.limits.Fault.{Fault}
 use Rattle.stack.specs.Drawing.{blank}
 use Rattle.stack.specs.declared.fault.StepFault.{StepFault}
-use Rattle.stack.specs.declared.stack.Stack.{Stack}
 
 -- the 640 weights of slot i
 abbrev pub bay : {W : Type 0} → ℕ → List W → List W
@@ -22,18 +21,13 @@ abbrev pub waiting : {W : Type 0} → ℕ → List Record → List W → List (B
 waiting zero rs work = []
 waiting (suc h) rs work = stored (slice_index_or rs h no_record) (bay h work) ∷ waiting h rs work
 
--- the bodies that wait, the latest first
-abbrev pub bodies : {W : Type 0} → Stack → List W → List (Body W)
-bodies s work = waiting s.height s.records work
-
 -- the body that waits at i, the latest at 0
 abbrev pub body_at : {W : Type 0} → List (Body W) → ℕ → Body W
 body_at ws i = slice_index_or ws i blank
 
--- at most six bodies, and each record within the limits
-pub record Ready (s : Stack) : Type 0 where
-  pub few : s.height ≤ 6
-  pub kept : (i : ℕ) → i < s.height → Kept (slice_index_or s.records i no_record)
+-- each of the lowest h records is within the limits
+abbrev pub KeptBelow : ℕ → List Record → Type 0
+KeptBelow h rs = (i : ℕ) → i < h → Kept (slice_index_or rs i no_record)
 
 -- the fault of a step, or its body in place of those that it took
 abbrev pub Drawn : {W : Type 0} → Result (Body W) StepFault → (rest after : List (Body W)) → Result (Unit {0}) StepFault → Type 0

@@ -1,132 +1,103 @@
-ghost use Rattle.std.specs.Prelude.{◌≡◌, ◌-◌, ◌≤◌, ◌∷◌, length, drop, OnOk};
+ghost use Rattle.std.specs.Prelude.{◌≡◌, ◌-◌, ◌≤◌, ◌∷◌, drop, OnOk};
 ghost use Rattle.picture.specs.BodyOperations.{turned_body, mirrored_body, zoomed_body};
 ghost use Rattle.stack.specs.Drawing.{drawing};
-ghost use Rattle.stack.specs.Waiting.{bodies, body_at, Ready, Drawn};
+ghost use Rattle.stack.specs.Stacks.{bodies};
+ghost use Rattle.stack.specs.Waiting.{body_at, Drawn};
 
 use crate::fault::StepFault;
 use crate::stack::Stack;
-use picture::{BAY, Quadrant};
+use picture::{BAY, Quadrant, Stored};
 use weight::Weight;
 
-impl Stack {
+// Each operation has its own promise, and so its own method; what they share is `waiting`, `put` and `settle`.
+impl<W: Weight> Stack<'_, W> {
     /// Turns the latest body clockwise by a quarter.
-    pub fn turn<W: Weight>(&mut self, work: &mut [W])
-        requires ready { Ready self.old }
-        requires some { 1 ≤ self.old.height }
-        requires bays { length work.old ≡ 3840 }
-        ensures bodies { bodies self.new work.new ≡ turned_body (body_at (bodies self.old work.old) 0) ∷ drop 1 (bodies self.old work.old) }
+    pub fn turn(&mut self)
+        requires { 1 ≤ self.old.height }
+        ensures bodies { bodies self.new ≡ turned_body (body_at (bodies self.old) 0) ∷ drop 1 (bodies self.old) }
         ensures height { self.new.height ≡ self.old.height }
-        ensures ready { Ready self.new }
+        ensures same_reference { self.new.work.ghost_name ≡ self.old.work.ghost_name }
     {
-        let slot = self.height - 1;
         let mut result = [W::zero(); BAY];
-        let out = &mut result[..];
-        let bay = &work[BAY * slot..BAY * slot + BAY];
-        let turned = compose::turn(&self.records[slot], bay, out);
-        self.put(slot, &turned, out, work);
+        let turned = compose::turn(self.waiting(0), &mut result);
+        let body = Stored {
+            record: &turned,
+            weights: &result,
+        };
+        self.put(1, body);
     }
 
     /// Exchanges left and right in the latest body.
-    pub fn mirror<W: Weight>(&mut self, work: &mut [W])
-        requires ready { Ready self.old }
-        requires some { 1 ≤ self.old.height }
-        requires bays { length work.old ≡ 3840 }
-        ensures bodies { bodies self.new work.new ≡ mirrored_body (body_at (bodies self.old work.old) 0) ∷ drop 1 (bodies self.old work.old) }
+    pub fn mirror(&mut self)
+        requires { 1 ≤ self.old.height }
+        ensures bodies { bodies self.new ≡ mirrored_body (body_at (bodies self.old) 0) ∷ drop 1 (bodies self.old) }
         ensures height { self.new.height ≡ self.old.height }
-        ensures ready { Ready self.new }
+        ensures same_reference { self.new.work.ghost_name ≡ self.old.work.ghost_name }
     {
-        let slot = self.height - 1;
         let mut result = [W::zero(); BAY];
-        let out = &mut result[..];
-        let bay = &work[BAY * slot..BAY * slot + BAY];
-        let mirrored = compose::mirror(&self.records[slot], bay, out);
-        self.put(slot, &mirrored, out, work);
+        let mirrored = compose::mirror(self.waiting(0), &mut result);
+        let body = Stored {
+            record: &mirrored,
+            weights: &result,
+        };
+        self.put(1, body);
     }
 
     /// Zooms the latest body into a quadrant.
-    pub fn zoom<W: Weight>(&mut self, quadrant: Quadrant, work: &mut [W])
-        requires ready { Ready self.old }
-        requires some { 1 ≤ self.old.height }
-        requires bays { length work.old ≡ 3840 }
-        ensures bodies { bodies self.new work.new ≡ zoomed_body W.kind quadrant (body_at (bodies self.old work.old) 0) ∷ drop 1 (bodies self.old work.old) }
+    pub fn zoom(&mut self, quadrant: Quadrant)
+        requires { 1 ≤ self.old.height }
+        ensures bodies { bodies self.new ≡ zoomed_body W.kind quadrant (body_at (bodies self.old) 0) ∷ drop 1 (bodies self.old) }
         ensures height { self.new.height ≡ self.old.height }
-        ensures ready { Ready self.new }
+        ensures same_reference { self.new.work.ghost_name ≡ self.old.work.ghost_name }
     {
-        let slot = self.height - 1;
         let mut result = [W::zero(); BAY];
-        let out = &mut result[..];
-        let bay = &work[BAY * slot..BAY * slot + BAY];
-        let zoomed = compose::zoom(&self.records[slot], bay, quadrant, out);
-        self.put(slot, &zoomed, out, work);
+        let zoomed = compose::zoom(self.waiting(0), quadrant, &mut result);
+        let body = Stored {
+            record: &zoomed,
+            weights: &result,
+        };
+        self.put(1, body);
     }
 
     /// Makes the sum of the latest two bodies, the older one on the left; the mark is the byte index of the '+'.
-    pub fn add<W: Weight>(&mut self, mark: usize, work: &mut [W]) -> Result<(), StepFault>
-        requires ready { Ready self.old }
-        requires two { 2 ≤ self.old.height }
-        requires bays { length work.old ≡ 3840 }
-        ensures drawn { Drawn ((drawing W.kind).add mark (body_at (bodies self.old work.old) 1) (body_at (bodies self.old work.old) 0)) (drop 2 (bodies self.old work.old)) (bodies self.new work.new) result }
+    pub fn add(&mut self, mark: usize) -> Result<(), StepFault>
+        requires { 2 ≤ self.old.height }
+        ensures drawn { Drawn ((drawing W.kind).add mark (body_at (bodies self.old) 1) (body_at (bodies self.old) 0)) (drop 2 (bodies self.old)) (bodies self.new) result }
         ensures height { OnOk result (self.new.height ≡ self.old.height - 1) }
-        ensures ready { Ready self.new }
+        ensures same_reference { self.new.work.ghost_name ≡ self.old.work.ghost_name }
     {
-        let slot = self.height - 2;
-        let next = slot + 1;
         let mut result = [W::zero(); BAY];
-        let out = &mut result[..];
-        let left = &work[BAY * slot..BAY * slot + BAY];
-        let right = &work[BAY * next..BAY * next + BAY];
-        let records = &self.records[..];
-        let sum = compose::add(&records[slot], left, &records[next], right, out);
-        self.settle(slot, sum, mark, out, work)
+        let sum = compose::add(self.waiting(1), self.waiting(0), &mut result);
+        self.settle(2, sum, mark, &result)
     }
 
     /// Makes the product of the latest two bodies, the older one on the left; the mark is the byte index of the '*'.
-    pub fn multiply<W: Weight>(&mut self, mark: usize, work: &mut [W]) -> Result<(), StepFault>
-        requires ready { Ready self.old }
-        requires two { 2 ≤ self.old.height }
-        requires bays { length work.old ≡ 3840 }
-        ensures drawn { Drawn ((drawing W.kind).multiply mark (body_at (bodies self.old work.old) 1) (body_at (bodies self.old work.old) 0)) (drop 2 (bodies self.old work.old)) (bodies self.new work.new) result }
+    pub fn multiply(&mut self, mark: usize) -> Result<(), StepFault>
+        requires { 2 ≤ self.old.height }
+        ensures drawn { Drawn ((drawing W.kind).multiply mark (body_at (bodies self.old) 1) (body_at (bodies self.old) 0)) (drop 2 (bodies self.old)) (bodies self.new) result }
         ensures height { OnOk result (self.new.height ≡ self.old.height - 1) }
-        ensures ready { Ready self.new }
+        ensures same_reference { self.new.work.ghost_name ≡ self.old.work.ghost_name }
     {
-        let slot = self.height - 2;
-        let next = slot + 1;
         let mut result = [W::zero(); BAY];
-        let out = &mut result[..];
-        let left = &work[BAY * slot..BAY * slot + BAY];
-        let right = &work[BAY * next..BAY * next + BAY];
-        let records = &self.records[..];
-        let product = product::multiply(&records[slot], left, &records[next], right, out);
-        self.settle(slot, product, mark, out, work)
+        let product = product::multiply(self.waiting(1), self.waiting(0), &mut result);
+        self.settle(2, product, mark, &result)
     }
 
     /// Pieces the latest four bodies, for the quadrants 0 to 3 from the oldest on; the mark is the byte index of the ']'.
-    pub fn piece<W: Weight>(&mut self, mark: usize, work: &mut [W]) -> Result<(), StepFault>
-        requires ready { Ready self.old }
-        requires four { 4 ≤ self.old.height }
-        requires bays { length work.old ≡ 3840 }
-        ensures drawn { Drawn ((drawing W.kind).piece mark (body_at (bodies self.old work.old) 3) (body_at (bodies self.old work.old) 2) (body_at (bodies self.old work.old) 1) (body_at (bodies self.old work.old) 0)) (drop 4 (bodies self.old work.old)) (bodies self.new work.new) result }
+    pub fn piece(&mut self, mark: usize) -> Result<(), StepFault>
+        requires { 4 ≤ self.old.height }
+        ensures drawn { Drawn ((drawing W.kind).piece mark (body_at (bodies self.old) 3) (body_at (bodies self.old) 2) (body_at (bodies self.old) 1) (body_at (bodies self.old) 0)) (drop 4 (bodies self.old)) (bodies self.new) result }
         ensures height { OnOk result (self.new.height ≡ self.old.height - 3) }
-        ensures ready { Ready self.new }
+        ensures same_reference { self.new.work.ghost_name ≡ self.old.work.ghost_name }
     {
-        let a = self.height - 4;
-        let b = a + 1;
-        let c = a + 2;
-        let d = a + 3;
         let mut result = [W::zero(); BAY];
-        let out = &mut result[..];
-        let records = &self.records[..];
         let pieced = piece::piece(
-            &records[a],
-            &work[BAY * a..BAY * a + BAY],
-            &records[b],
-            &work[BAY * b..BAY * b + BAY],
-            &records[c],
-            &work[BAY * c..BAY * c + BAY],
-            &records[d],
-            &work[BAY * d..BAY * d + BAY],
-            out,
+            self.waiting(3),
+            self.waiting(2),
+            self.waiting(1),
+            self.waiting(0),
+            &mut result,
         );
-        self.settle(a, pieced, mark, out, work)
+        self.settle(4, pieced, mark, &result)
     }
 }

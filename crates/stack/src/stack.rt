@@ -1,114 +1,121 @@
 ghost use Rattle.std.specs.Prelude.{◌≡◌, ◌+◌, ◌-◌, ◌<◌, ◌≤◌, ◌∷◌, length, drop, IfOk, OnOk};
+ghost use Rattle.std.proofs.Props.{props};
+ghost use Rattle.picture.specs.Lent.{lent};
 ghost use Rattle.picture.specs.Stored.{stored, Kept};
-ghost use Rattle.stack.specs.Waiting.{waiting, bodies, body_at, Ready, Settled};
+ghost use Rattle.stack.specs.Waiting.{body_at, KeptBelow, Settled};
 
 use crate::fault::StepFault;
 use compose::Fault;
-use picture::{BAY, BLANK, Record};
+use picture::{BAY, BLANK, Record, Stored};
 use recipe::MAX_WAITING;
 use weight::Weight;
 
-/// The records of the bodies that wait, the oldest first; each has its weights in the bay of its slot.
-#[derive(Clone, Copy)]
-pub struct Stack {
-    pub(crate) records: [Record; MAX_WAITING],
-    pub(crate) height: usize,
+/// The bodies that wait, the oldest first: their records, and the working bays that are lent for their weights.
+#[derive(Drop)]
+pub struct Stack<'m, W> {
+    // An array and a height, and no `Vec`: the library has no heap.
+    records: [Record; MAX_WAITING],
+    height: usize,
+    work: &'m mut [W],
+    ghost few: { height ≤ 6 },
+    ghost kept: { KeptBelow height records } by { Prim.hlevel props },
+    ghost room: { length work.now ≡ 3840 },
 }
 
-impl Stack {
+// `same_reference` says that a stack keeps the bays that it was lent: a clause of each method, since a type cannot
+// speak of what its value was before.
+impl<'m, W: Weight> Stack<'m, W> {
+    ghost use Rattle.stack.specs.Stacks.{bodies};
+
     /// No body waits.
-    pub fn new() -> Stack
+    pub fn new(work: &'m mut [W]) -> Stack<'m, W>
+        requires { length work.old ≡ 3840 }
         ensures none { result.height ≡ 0 }
-        ensures ready { Ready result }
+        ensures same_reference { result.work.ghost_name ≡ work.entry.ghost_name }
     {
         Stack {
             records: [BLANK; MAX_WAITING],
             height: 0,
+            work,
         }
     }
 
-    /// Puts a body into a slot, and takes those above it away.
-    pub(crate) fn put<W: Weight>(
-        &mut self,
-        slot: usize,
-        place: &Record,
-        weights: &[W],
-        work: &mut [W],
-    )
-        requires ready { Ready self.old }
-        requires room { slot < 6 }
-        requires reached { slot ≤ self.old.height }
-        requires kept { Kept place.now }
-        requires full { length weights.now ≡ 640 }
-        requires bays { length work.old ≡ 3840 }
-        ensures bodies { bodies self.new work.new ≡ stored place.now weights.now ∷ waiting slot self.old.records work.old }
-        ensures height { self.new.height ≡ slot + 1 }
-        ensures ready { Ready self.new }
+    /// The body that waits at i, the latest at 0.
+    pub(crate) fn waiting(&self, i: usize) -> Stored<'_, W>
+        requires { i < self.now.height }
+        ensures { lent result ≡ body_at (bodies self.now) i }
     {
-        let bay = &mut work[BAY * slot..BAY * slot + BAY];
-        bay.copy_from_slice(weights);
-        self.records[slot] = *place;
+        let slot = self.height - i - 1;
+        Stored {
+            record: &self.records[slot],
+            weights: &self.work[BAY * slot..BAY * slot + BAY],
+        }
+    }
+
+    /// Puts a body in place of the latest that wait.
+    pub(crate) fn put(&mut self, taken: usize, body: Stored<'_, W>)
+        requires some { taken ≤ self.old.height }
+        requires room { self.old.height - taken < 6 }
+        ensures bodies { bodies self.new ≡ lent body.entry ∷ drop taken (bodies self.old) }
+        ensures height { self.new.height ≡ self.old.height - taken + 1 }
+        ensures same_reference { self.new.work.ghost_name ≡ self.old.work.ghost_name }
+    {
+        let slot = self.height - taken;
+        let bay = &mut self.work[BAY * slot..BAY * slot + BAY];
+        bay.copy_from_slice(body.weights);
+        self.records[slot] = *body.record;
         self.height = slot + 1;
     }
 
-    /// Puts the body of a step into a slot, unless the step is refused.
-    pub(crate) fn settle<W: Weight>(
+    /// Puts the body of a step in place of those that it took, unless the step is refused.
+    pub(crate) fn settle(
         &mut self,
-        slot: usize,
+        taken: usize,
         drawn: Result<Record, Fault>,
         mark: usize,
         weights: &[W],
-        work: &mut [W],
     ) -> Result<(), StepFault>
-        requires ready { Ready self.old }
-        requires room { slot < 6 }
-        requires reached { slot ≤ self.old.height }
+        requires some { taken ≤ self.old.height }
+        requires room { self.old.height - taken < 6 }
         requires kept { IfOk drawn Kept }
         requires full { length weights.now ≡ 640 }
-        requires bays { length work.old ≡ 3840 }
-        ensures settled { Settled drawn mark weights.now (waiting slot self.old.records work.old) (bodies self.new work.new) result }
-        ensures height { OnOk result (self.new.height ≡ slot + 1) }
-        ensures ready { Ready self.new }
+        ensures settled { Settled drawn mark weights.now (drop taken (bodies self.old)) (bodies self.new) result }
+        ensures height { OnOk result (self.new.height ≡ self.old.height - taken + 1) }
+        ensures same_reference { self.new.work.ghost_name ≡ self.old.work.ghost_name }
     {
-        match drawn {
-            Ok(place) => {
-                self.put(slot, &place, weights, work);
-                Ok(())
-            }
-            Err(fault) => Err(StepFault { mark, fault }),
-        }
+        let record = drawn.map_err(|fault| StepFault { mark, fault })?;
+        let body = Stored {
+            record: &record,
+            weights,
+        };
+        self.put(taken, body);
+        Ok(())
     }
 
     /// Adds a body, the latest now.
-    pub fn push<W: Weight>(&mut self, place: &Record, weights: &[W], work: &mut [W])
-        requires ready { Ready self.old }
-        requires room { self.old.height < 6 }
-        requires kept { Kept place.now }
-        requires full { length weights.now ≡ 640 }
-        requires bays { length work.old ≡ 3840 }
-        ensures bodies { bodies self.new work.new ≡ stored place.now weights.now ∷ bodies self.old work.old }
+    pub fn push(&mut self, body: Stored<'_, W>)
+        requires { self.old.height < 6 }
+        ensures bodies { bodies self.new ≡ lent body.entry ∷ bodies self.old }
         ensures height { self.new.height ≡ self.old.height + 1 }
-        ensures ready { Ready self.new }
+        ensures same_reference { self.new.work.ghost_name ≡ self.old.work.ghost_name }
     {
-        let slot = self.height;
-        self.put(slot, place, weights, work);
+        self.put(0, body);
     }
 
     /// Takes the latest body: its record, and its weights into `out`.
-    pub fn pop<W: Weight>(&mut self, work: &[W], out: &mut [W]) -> Record
-        requires ready { Ready self.old }
+    pub fn pop(&mut self, out: &mut [W]) -> Record
         requires some { 1 ≤ self.old.height }
-        requires bays { length work.now ≡ 3840 }
         requires full { length out.old ≡ 640 }
-        ensures body { stored result out.new ≡ body_at (bodies self.old work.now) 0 }
-        ensures rest { bodies self.new work.now ≡ drop 1 (bodies self.old work.now) }
+        ensures body { stored result out.new ≡ body_at (bodies self.old) 0 }
+        ensures rest { bodies self.new ≡ drop 1 (bodies self.old) }
         ensures kept { Kept result }
         ensures height { self.new.height ≡ self.old.height - 1 }
-        ensures ready { Ready self.new }
+        ensures same_reference { self.new.work.ghost_name ≡ self.old.work.ghost_name }
     {
-        let slot = self.height - 1;
-        out.copy_from_slice(&work[BAY * slot..BAY * slot + BAY]);
-        self.height = slot;
-        self.records[slot]
+        let latest = self.waiting(0);
+        let record = *latest.record;
+        out.copy_from_slice(latest.weights);
+        self.height -= 1;
+        record
     }
 }

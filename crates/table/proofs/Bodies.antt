@@ -1,11 +1,11 @@
 -- The bodies of the places after a write to a bay.
-use Rattle.std.proofs.Common.{◌≡◌, ℕ, ◌+◌, ◌*◌, ◌<◌, ◌≤◌, Bool, true, false, cond, eqb, ◌≢◌, List, ◌++◌, length, take, drop, sym, refl, ap, ◌∙◌, ap₂, ⊎_elim, arith}
+use Rattle.std.proofs.Common.{◌≡◌, ℕ, ◌+◌, ◌*◌, ◌<◌, ◌≤◌, Bool, true, false, cond, eqb, ◌≢◌, List, ◌++◌, length, take, drop, sym, refl, ap, ◌∙◌, ap₂, ⊎_elim, arith, rules}
 use mathlib.Core.Path.{fun_ext}
 use borrow.Rule.Slice.PartMut.{put_mid}
 use Rattle.std.specs.List.{between}
 use Rattle.std.proofs.lemmas.List.Edits.{length-between, split_between}
-use Rattle.std.proofs.lemmas.List.{drop-drop}
-use Rattle.std.proofs.lemmas.Slice.{between_is, between-put_mid, drop-put_mid, take-put_mid_below}
+use Rattle.std.proofs.lemmas.List.{drop-drop, length-take-le, take-append-drop, take-append-le}
+use Rattle.std.proofs.lemmas.Slice.{overwrites, between_is, between-put_mid}
 use Rattle.std.proofs.lemmas.Bool.{eqb-true, eqb-false, cases_lt}
 use Rattle.picture.specs.Bodies.{Body}
 use Rattle.picture.specs.Stored.{stored}
@@ -16,7 +16,7 @@ use Rattle.recipe.specs.declared.place.Place.{Place}
 use Rattle.recipe.proofs.Numbers.{number_below}
 use Rattle.stack.specs.Drawing.{blank}
 use Rattle.stack.specs.Waiting.{bay}
-use Rattle.table.specs.Performing.{work}
+use Rattle.stack.proofs.Slots.{bay_before}
 use Rattle.table.specs.Tables.{record_of, body_of, Blank}
 use Rattle.table.specs.declared.table.Table.{Table}
 
@@ -38,16 +38,9 @@ stored_blank {W} r weights states arcs =
 pub blank_bodies : {W : Type 0} (t : Table) (memory : List W) → Blank t → body_of t memory ≡ (λ (p : Place). blank)
 blank_bodies t memory b = fun_ext (λ p. stored_blank (record_of t p) (bay (number p) memory) (b.states (number p)) (b.arcs (number p)))
 
--- a write past a bay leaves it
-pub bay_before : {W : Type 0} (i a k : ℕ) (memory ys : List W) → 640 * i + 640 ≤ a → a ≤ length memory → bay i (put_mid a k memory ys) ≡ bay i memory
-bay_before i a k memory ys low long =
-    between_is (put_mid a k memory ys) (640 * i) (640 * i + 640)
-    ∙ ap (drop (640 * i)) (take-put_mid_below a k memory ys (640 * i + 640) low long)
-    ∙ sym (between_is memory (640 * i) (640 * i + 640))
-
 -- a write before a bay leaves it
 bay_after : {W : Type 0} (i a k : ℕ) (memory ys : List W) → a + k ≤ 640 * i → a ≤ length memory → length ys ≡ k → bay i (put_mid a k memory ys) ≡ bay i memory
-bay_after i a k memory ys high long full = ap (take _) (drop-put_mid a k memory ys (640 * i) high long full)
+bay_after i a k memory ys high long full = search (rules, overwrites, between_is)
 
 -- a write to a bay leaves the others
 bay_other : {W : Type 0} (i n a k : ℕ) (memory ys : List W) → i ≢ n → a ≡ 640 * n → a ≤ length memory → k ≡ 640 → length ys ≡ k → bay i (put_mid a k memory ys) ≡ bay i memory
@@ -61,14 +54,21 @@ part_again a k xs ys e is same =
     ∙ ap (λ zs. take a xs ++ (between a e xs ++ zs)) (drop-drop k a xs ∙ ap (λ n. drop n xs) is)
     ∙ sym (split_between xs a e (omega arith))
 
--- a write past the bays of the places leaves their bodies
-pub bodies_before : {W : Type 0} (t : Table) (a k : ℕ) (memory ys : List W) → 5120 ≤ a → a ≤ length memory → body_of t (put_mid a k memory ys) ≡ body_of t memory
-bodies_before t a k memory ys high long =
-    fun_ext (λ p. let low = number_below p in ap (stored (record_of t p)) (bay_before (number p) a k memory ys (omega arith) long))
+-- what lies past the bays of the places has no part in the bodies
+pub front_bodies : {W : Type 0} (t : Table) (xs ys : List W) → 5120 ≤ length xs → body_of t (xs ++ ys) ≡ body_of t xs
+front_bodies t xs ys long =
+    fun_ext (λ p.
+    let low = number_below p in
+    let a = 640 * number p in
+    let fits : a + 640 ≤ length xs = omega arith in
+    let same : bay (number p) (xs ++ ys) ≡ bay (number p) xs = search (rules, between_is, take-append-le) in
+    ap (stored (record_of t p)) same)
 
--- a write to the bay of a place leaves the bodies that wait
-pub work_stays : {W : Type 0} (p : Place) (a k : ℕ) (memory ys : List W) → a ≡ 640 * number p → k ≡ 640 → a ≤ length memory → length ys ≡ k → work (put_mid a k memory ys) ≡ work memory
-work_stays p a k memory ys from bays long full = let low = number_below p in ap (take 3840) (drop-put_mid a k memory ys 5120 (omega arith) long full)
+-- nor for a memory that is cut to them
+pub front_taken : {W : Type 0} (t : Table) (memory front : List W) → front ≡ take 5120 memory → 5120 ≤ length memory → body_of t front ≡ body_of t memory
+front_taken t memory front cut long =
+    let e = length-take-le 5120 memory long in
+    ap (body_of t) cut ∙ sym (front_bodies t (take 5120 memory) (drop 5120 memory) (omega arith)) ∙ ap (body_of t) (take-append-drop 5120 memory)
 
 -- a record that is replaced, with the bay as it is
 module _ (t u : Table) (p : Place) (r : Record) (is : record_of u ≡ put p r (record_of t)) where

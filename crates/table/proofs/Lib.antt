@@ -1,4 +1,3 @@
 pub mod Bodies
 pub mod Keeping
-pub mod Lining
 pub mod Scripting

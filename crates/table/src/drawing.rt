@@ -1,144 +1,83 @@
 //! Steps on the bodies of the places and on those that wait.
-ghost use Rattle.std.specs.Prelude.{◌≡◌, ◌+◌, ◌-◌, ◌<◌, ◌≤◌, false, [], ◌∷◌, length, drop, IfOk, OnOk};
+ghost use Rattle.std.specs.Prelude.{◌≡◌, ◌-◌, ◌≤◌, [], drop, length, OnOk};
+ghost use Rattle.picture.specs.Lent.{lent};
 ghost use Rattle.recipe.specs.Evaluations as recipe;
 ghost use Rattle.recipe.specs.Evaluations.{carry};
-ghost use Rattle.stack.specs.Drawing.{drawing};
-ghost use Rattle.picture.specs.Bodies.{Body};
 ghost use Rattle.recipe.specs.Steps.{Carries};
-ghost use Rattle.recipe.specs.declared.place.Place.{Place};
-ghost use Rattle.stack.specs.Waiting.{Ready, bodies, body_at};
-ghost use Rattle.table.specs.Performing.{waiting_in, left_waiting, Inner, Stores, Fits, Stepped, Lined, Performed};
+ghost use Rattle.stack.specs.Drawing.{drawing};
+ghost use Rattle.stack.specs.Stacks.{bodies};
+ghost use Rattle.stack.specs.Waiting.{body_at};
 ghost use Rattle.table.specs.Limits.{AllKept};
+ghost use Rattle.table.specs.Performing.{left_waiting, Fits, Stepped, Performed};
 ghost use Rattle.table.specs.Tables.{body_of};
 
 use crate::table::{PLACES, Table};
-use picture::BAY;
+use picture::{BAY, Stored};
 use recipe::{MAX_WAITING, Place, Step};
 use stack::{LineFault, Stack, StepFault};
 use weight::Weight;
 
-/// Where the working bays begin, behind those of the places.
-const WORK: usize = PLACES * BAY;
+/// How many weights the bays of the places have; the working bays lie behind them.
+pub const PLACE_WEIGHTS: usize = PLACES * BAY;
 
-/// Where the bays of the bodies that wait end.
-const WORK_END: usize = WORK + MAX_WAITING * BAY;
+/// How many weights the working bays have.
+const WORK_WEIGHTS: usize = MAX_WAITING * BAY;
 
-/// Carries out a step on the waiting bodies alone.
-fn operate<W: Weight>(step: Step, stack: &mut Stack, work: &mut [W]) -> Result<(), StepFault>
-    requires inner { Inner step }
-    requires fits { Fits step stack.old.height }
-    requires ready { Ready stack.old }
-    requires bays { length work.old ≡ 3840 }
-    ensures stepped { (at : Place → Body W) → Stepped W.kind at step (bodies stack.old work.old) (bodies stack.new work.new) result }
-    ensures height { OnOk result (stack.new.height ≡ left_waiting step stack.old.height) }
-    ensures ready { Ready stack.new }
-{
-    match step {
-        Step::Turn => stack.turn(work),
-        Step::Mirror => stack.mirror(work),
-        Step::Zoom(quadrant) => stack.zoom(quadrant, work),
-        Step::Add(mark) => stack.add(mark, work)?,
-        Step::Multiply(mark) => stack.multiply(mark, work)?,
-        Step::Piece(mark) => stack.piece(mark, work)?,
-        Step::Name(_) => unreachable(),
-        Step::Store(_) => unreachable(),
-    }
-    Ok(())
-}
-
+// The bays and the stack stay parameters: a struct that lends them with the table would promise of each that it stays.
 impl Table {
-    /// Adds the body of a place to those that wait.
-    fn name<W: Weight>(&self, place: Place, stack: &mut Stack, memory: &mut [W])
+    /// The body of a place.
+    pub fn body<'a, W: Weight>(&'a self, place: Place, bays: &'a [W]) -> Stored<'a, W>
         requires kept { AllKept self.now }
-        requires ready { Ready stack.old }
-        requires room { stack.old.height < 6 }
-        requires bays { length memory.old ≡ 10240 }
-        ensures waiting { waiting_in stack.new memory.new ≡ body_of self.now memory.old place ∷ waiting_in stack.old memory.old }
-        ensures places { body_of self.now memory.new ≡ body_of self.now memory.old }
-        ensures height { stack.new.height ≡ stack.old.height + 1 }
-        ensures ready { Ready stack.new }
+        requires bays { 5120 ≤ length bays.now }
+        ensures { lent result ≡ body_of self.now bays.now place }
     {
-        let at = BAY * place.number() as usize;
-        let mut body = [W::zero(); BAY];
-        let own = &mut body[..];
-        own.copy_from_slice(&memory[at..at + BAY]);
-        stack.push(self.record(place), own, &mut memory[WORK..WORK_END]);
+        let at = BAY * usize::from(place);
+        Stored {
+            record: self.record(place),
+            weights: &bays[at..at + BAY],
+        }
     }
 
     /// Puts the latest body on a place.
-    fn store<W: Weight>(&mut self, place: Place, stack: &mut Stack, memory: &mut [W])
+    fn store<W: Weight>(&mut self, place: Place, bays: &mut [W], stack: &mut Stack<'_, W>)
         requires kept { AllKept self.old }
-        requires ready { Ready stack.old }
+        requires bays { length bays.old ≡ 5120 }
         requires some { 1 ≤ stack.old.height }
-        requires bays { length memory.old ≡ 10240 }
-        ensures places { body_of self.new memory.new ≡ recipe.put place (body_at (waiting_in stack.old memory.old) 0) (body_of self.old memory.old) }
-        ensures waiting { waiting_in stack.new memory.new ≡ drop 1 (waiting_in stack.old memory.old) }
+        ensures places { body_of self.new bays.new ≡ recipe.put place (body_at (bodies stack.old) 0) (body_of self.old bays.old) }
+        ensures waiting { bodies stack.new ≡ drop 1 (bodies stack.old) }
         ensures height { stack.new.height ≡ stack.old.height - 1 }
-        ensures ready { Ready stack.new }
         ensures kept { AllKept self.new }
     {
-        let mut body = [W::zero(); BAY];
-        let own = &mut body[..];
-        let latest = stack.pop(&memory[WORK..WORK_END], own);
-        let at = BAY * place.number() as usize;
-        let bay = &mut memory[at..at + BAY];
-        bay.copy_from_slice(own);
+        let at = BAY * usize::from(place);
+        let latest = stack.pop(&mut bays[at..at + BAY]);
         self.put(place, latest);
     }
 
-    /// Carries out a step that stores nothing.
+    /// Carries out a step.
     fn step<W: Weight>(
-        &self,
-        step: Step,
-        stack: &mut Stack,
-        memory: &mut [W],
-    ) -> Result<(), StepFault>
-        requires inside { Stores step ≡ false }
-        requires fits { Fits step stack.old.height }
-        requires kept { AllKept self.now }
-        requires ready { Ready stack.old }
-        requires bays { length memory.old ≡ 10240 }
-        ensures stepped { Stepped W.kind (body_of self.now memory.old) step (waiting_in stack.old memory.old) (waiting_in stack.new memory.new) result }
-        ensures places { body_of self.now memory.new ≡ body_of self.now memory.old }
-        ensures height { OnOk result (stack.new.height ≡ left_waiting step stack.old.height) }
-        ensures ready { Ready stack.new }
-    {
-        if let Step::Name(place) = step {
-            self.name(place, stack, memory);
-            return Ok(());
-        }
-        operate(step, stack, &mut memory[WORK..WORK_END])
-    }
-
-    /// Carries out a line, the steps up to one that stores, and answers how many they are.
-    fn line<W: Weight>(
         &mut self,
-        number: usize,
-        steps: &[Step],
-        stack: &mut Stack,
-        memory: &mut [W],
-    ) -> Result<usize, LineFault>
-        requires some { 0 < length steps.now }
-        requires carries { Carries stack.old.height steps.now 0 }
+        step: Step,
+        bays: &mut [W],
+        stack: &mut Stack<'_, W>,
+    ) -> Result<(), StepFault>
+        requires fits { Fits step stack.old.height }
         requires kept { AllKept self.old }
-        requires ready { Ready stack.old }
-        requires bays { length memory.old ≡ 10240 }
-        ensures lined { Lined W.kind (body_of self.old memory.old) number steps.now (body_of self.new memory.new) (waiting_in stack.old memory.old) (waiting_in stack.new memory.new) result }
-        ensures carries { IfOk result (λ n. Carries stack.new.height (drop n steps.now) 0) }
+        requires bays { length bays.old ≡ 5120 }
+        ensures stepped { Stepped W.kind step (body_of self.old bays.old) (body_of self.new bays.new) (bodies stack.old) (bodies stack.new) result }
+        ensures height { OnOk result (stack.new.height ≡ left_waiting step stack.old.height) }
         ensures kept { AllKept self.new }
-        ensures ready { Ready stack.new }
     {
-        for i in 0..steps.len() {
-            let step = steps[i];
-            if let Step::Store(place) = step {
-                self.store(place, stack, memory);
-                return Ok(i + 1);
-            }
-            if let Err(step) = self.step(step, stack, memory) {
-                return Err(LineFault { line: number, step });
-            }
+        match step {
+            Step::Name(place) => stack.push(self.body(place, bays)),
+            Step::Turn => stack.turn(),
+            Step::Mirror => stack.mirror(),
+            Step::Zoom(quadrant) => stack.zoom(quadrant),
+            Step::Add(mark) => stack.add(mark)?,
+            Step::Multiply(mark) => stack.multiply(mark)?,
+            Step::Piece(mark) => stack.piece(mark)?,
+            Step::Store(place) => self.store(place, bays, stack),
         }
-        unreachable()
+        Ok(())
     }
 
     /// Carries out the steps of a script, line by line, and answers how many lines they are.
@@ -153,12 +92,17 @@ impl Table {
         ensures performed { Performed (carry (drawing W.kind) steps.now [] (body_of self.old memory.old)) (body_of self.new memory.new) result }
         ensures kept { AllKept self.new }
     {
-        let mut stack = Stack::new();
+        let (bays, rest) = memory.split_at_mut(PLACE_WEIGHTS);
+        let mut stack = Stack::new(&mut rest[0..WORK_WEIGHTS]);
         let mut lines = 0;
-        let mut at = 0;
-        while at < steps.len() {
-            at += self.line(lines, &steps[at..], &mut stack, memory)?;
-            lines += 1;
+        for step in steps {
+            // No `map_err` and `?`: the closure's contract would be longer than these lines.
+            if let Err(step) = self.step(*step, bays, &mut stack) {
+                return Err(LineFault { line: lines, step });
+            }
+            if let Step::Store(_) = step {
+                lines += 1;
+            }
         }
         Ok(lines)
     }

@@ -4,4 +4,5 @@
 mod drawing;
 mod table;
 
+pub use drawing::PLACE_WEIGHTS;
 pub use table::{PLACES, Table};

@@ -10,6 +10,7 @@ use recipe::Place;
 pub const PLACES: usize = 8;
 
 /// The records of the eight places. Their weights lie in memory that the caller lends.
+// It has no ghost field: a table is plain, and what holds of its records is a clause of its methods.
 #[derive(Clone, Copy)]
 pub struct Table {
     pub(crate) records: [Record; PLACES],
@@ -29,7 +30,7 @@ impl Table {
     pub fn record(&self, place: Place) -> &Record
         ensures { result.now ≡ record_of self.now place }
     {
-        &self.records[place.number() as usize]
+        &self.records[usize::from(place)]
     }
 
     /// Writes the record of a place whole.
@@ -37,7 +38,7 @@ impl Table {
         ensures records { self.new.records ≡ slice_set self.old.records (number place) new }
         ensures places { record_of self.new ≡ recipe.put place new (record_of self.old) }
     {
-        overwrite(&mut self.records[place.number() as usize], new);
+        overwrite(&mut self.records[usize::from(place)], new);
     }
 }
 

@@ -1,41 +1,28 @@
-use Rattle.std.proofs.Common.{length, arith}
-use Rattle.std.proofs.lemmas.List.Edits.{length-between}
-use Rattle.std.proofs.lemmas.Slice.{between_to_end}
-use Rattle.std.proofs.lemmas.Result.{err_from_is_err_and}
-use Rattle.table.proofs.Scripting.{part_carries, done_more, done_stop, done_all}
+use Rattle.std.proofs.Common.{◌+◌, ◌≤◌, sym, refl, ap, ◌∙◌, arith}
+use Rattle.table.proofs.Scripting.{more, count_store, count_other, here_fits, done_more, done_stop, done_all, performed_front}
+use Rattle.table.proofs.table.Table.perform.Goals.{in-Store, in_default-step}
 use Rattle.table.proofs.table.Table.perform.Goals as goal
 
-pub line-requires : goal.line-requires
-line-requires g c =
-    let d = c.loop-at.invariant in
-    let steps = c.args.steps.now in
-    record {
-      some = omega (arith, length-between steps c.loop-at.at (length steps) (omega arith));
-      carries = part_carries _ _ _ _ _ _ _ _ _ d _ (between_to_end steps c.loop-at.at (length steps) (omega arith));
-      kept = d.kept;
-      ready = d.ready;
-      bays = d.long;
-    }
+pub step-requires-clause-fits : goal.step-requires-clause-fits
+step-requires-clause-fits g c = here_fits _ _ _ _ _ _ _ _ c.loop-step.invariant _ _ refl (omega arith)
 
-pub returns-in_err-at : goal.returns-in_err-at
-returns-in_err-at g c =
-    let d = c.loop-at.invariant in
-    let steps = c.args.steps.now in
-    let l = c.in_err-at.ensures in
-    let p = err_from_is_err_and c.from_residual.result c.from_residual.ensures.1 in
-    record {
-      performed = rw (p.1, p.2) (done_stop _ _ _ _ _ _ _ _ _ d _ (between_to_end steps c.loop-at.at (length steps) (omega arith)) _ c.in_err-at.field-0.0 l.lined.0 l.lined.1 l.lined.2);
-      kept = l.kept;
-    }
+pub returns-in-Err-clause-performed : goal.returns-in-Err-clause-performed
+returns-in-Err-clause-performed g c =
+    performed_front g.W.Weight.kind c.args.steps.now _ _ c.args.memory.now _ _ _ _ c.split_at_mut-bays.ensures.front c.requires.bays (omega arith)
+    (done_stop _ _ _ _ _ _ _ _ c.loop-step.invariant _ _ refl (omega arith) _ c.in-Err.step c.in-Err.ensures.stepped)
 
-pub loop-at-preserved : goal.loop-at-preserved
-loop-at-preserved g c =
-    let d = c.loop-at.invariant in
-    let steps = c.args.steps.now in
-    let l = c.in_ok-at.ensures in
-    done_more _ _ _ _ _ _ _ _ _ d _ (between_to_end steps c.loop-at.at (length steps) (omega arith)) _ _ _ _ l.kept l.ready (omega arith) l.lined.0 (omega (arith, length-between steps c.loop-at.at (length steps) (omega arith), l.lined.1)) l.carries l.lined.2
+pub loop-step-preserved : goal.loop-step-preserved
+loop-step-preserved g c =
+    let lines = c.loop-step.lines in
+    let few : c.match-step-2.lines ≤ lines + 1 = elim c.match-step-2.branch [ in-Store w ↦ omega (arith, w.lines-is) | in_default-step w ↦ omega (arith, w.lines-is) ] in
+    done_more _ _ _ _ _ _ _ _ c.loop-step.invariant _ _ refl (omega arith) _ _ _ _ c.step.ensures.kept (omega arith) c.in_default.ensures.height few
+    (λ r. elim c.match-step-2.branch [
+      | in-Store w ↦ count_store _ w.in-Store.field-0 lines w.in-Store.is r ∙ ap (λ n. more n r) (sym w.lines-is)
+      | in_default-step w ↦ count_other _ lines w.in_default-step.not-Store r ∙ ap (λ n. more n r) (sym w.lines-is)
+    ])
+    c.in_default.ensures.stepped
 
-pub returns : goal.returns
-returns g c =
-    let d = c.loop-at.invariant in
-    record { performed = done_all _ _ _ _ _ _ _ _ _ d (omega arith); kept = d.kept }
+pub returns-clause-performed : goal.returns-clause-performed
+returns-clause-performed g c =
+    performed_front g.W.Weight.kind c.args.steps.now _ _ c.args.memory.now _ _ _ _ c.split_at_mut-bays.ensures.front c.requires.bays (omega arith)
+    (done_all _ _ _ _ _ _ _ _ c.loop-step.invariant (omega arith))
