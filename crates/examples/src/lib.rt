@@ -4,7 +4,11 @@
 ghost use Rattle.examples.specs.Examples.{Examples};
 
 #[cfg(test)]
+mod arcs;
+#[cfg(test)]
 mod compositions;
+#[cfg(test)]
+mod pairs;
 #[cfg(test)]
 mod recipes;
 #[cfg(test)]

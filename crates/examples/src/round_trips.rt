@@ -1,17 +1,10 @@
 //! Tests of bodies as words.
 ghost use Rattle.std.specs.Prelude.{◌≡◌, length};
 
+use crate::pairs::{Eight, Nine, Two};
 use picture::BAY;
-use weight::{Grey, Height, Ink, Pair, Weight, Written};
+use weight::{Grey, Weight, Written};
 use words::{TripFault, rewrite};
-
-type Two = Pair<Ink, Height>;
-
-type Four = Pair<Two, Two>;
-
-type Eight = Pair<Four, Four>;
-
-type Nine = Pair<Eight, Ink>;
 
 // A grey body of one state with a loop for each digit.
 const FLAT: [u32; 11] = [
@@ -44,9 +37,7 @@ fn flat_body_and_blank_body(rt: HostRuntime) {
     let mut greys = [Grey::zero(); BAY];
     let mut out = [5; 12];
     assert_eq!(rt; trip(&FLAT, &mut greys, &mut out), (0, 11));
-    for i in 0..11 {
-        assert!(rt; out[i] == FLAT[i]);
-    }
+    assert_eq!(rt; out[..11], FLAT[..]);
     assert!(rt; out[11] == 5);
     let mut short = [5; 10];
     assert_eq!(rt; trip(&FLAT, &mut greys, &mut short), (16, 0));
@@ -99,9 +90,9 @@ fn damaged_words(rt: HostRuntime) {
 
 // Writes the words of 512 arcs from state 63 to itself, each before a weight of so many words.
 fn loops(given: &mut [u32], first: usize, width: u8) {
-    for i in first..given.len() {
+    for (i, word) in given.iter_mut().enumerate().skip(first) {
         if (i - first) % (1 + width as usize) == 0 {
-            given[i] = 0x2C00_3F3F;
+            *word = 0x2C00_3F3F;
         }
     }
 }

@@ -1,28 +1,9 @@
 //! Tests of cells and tiles.
-use picture::{Arc, BAY, Quadrant, Record};
+use crate::arcs::{arc, fan, ramp};
+use picture::{Arc, BAY, Quadrant, Record, Stored};
 use std::test::Fail;
-use tile::{Fault, SCRATCH, cell, print, print_row};
+use tile::{Fault, SCRATCH, Tile, cell, print, print_row};
 use weight::{Grey, Height, Ink, Mask, Pair, Valve, Weight};
-
-const fn arc(from: u8, to: u8, quadrant: Quadrant) -> Arc {
-    Arc { from, to, quadrant }
-}
-
-/// Loops at both states for each digit, and from the first state to the second for digits 1 and 3.
-fn ramp() -> [Arc; 10] {
-    [
-        arc(0, 0, Quadrant::UpperLeft),
-        arc(0, 0, Quadrant::UpperRight),
-        arc(0, 0, Quadrant::LowerLeft),
-        arc(0, 0, Quadrant::LowerRight),
-        arc(0, 1, Quadrant::UpperRight),
-        arc(0, 1, Quadrant::LowerRight),
-        arc(1, 1, Quadrant::UpperLeft),
-        arc(1, 1, Quadrant::UpperRight),
-        arc(1, 1, Quadrant::LowerLeft),
-        arc(1, 1, Quadrant::LowerRight),
-    ]
-}
 
 /// Fills in the ramp's weights: first (1, 0), last (0, 1), loops of 1 and of 2, and 1 in between.
 fn fill_ramp<W: Weight>(weights: &mut [W]) {
@@ -37,42 +18,32 @@ fn fill_ramp<W: Weight>(weights: &mut [W]) {
 
 /// Whether a buffer that was full of 8 begins with these greys, and nothing is written behind them.
 fn begins(cells: &[Grey], greys: &[u32]) -> bool {
-    let mut same = true;
-    for (i, cell) in cells.iter().enumerate() {
-        same = same && cell.number() == greys.get(i).copied().unwrap_or(8);
+    let due = |i: usize| greys.get(i).copied().unwrap_or(8);
+    cells
+        .iter()
+        .enumerate()
+        .all(|(i, cell)| cell.number() == due(i))
+}
+
+const fn tile_of(depth: usize, digits: usize, prefix: usize) -> Tile {
+    Tile {
+        depth,
+        digits,
+        prefix,
     }
-    same
 }
 
 /// Whether a tile's cells are these greys, and nothing is written behind them.
-fn shows(
-    states: u8,
-    arcs: &[Arc],
-    weights: &[Grey],
-    numbers: (usize, usize, usize),
-    greys: &[u32],
-) -> bool {
-    let Some(place) = Record::new(states, arcs) else {
+fn shows(states: u8, arcs: &[Arc], weights: &[Grey; BAY], tile: Tile, greys: &[u32]) -> bool {
+    let Some(record) = Record::new(states, arcs) else {
         return false;
     };
-    let mut scratch = [Grey::new(9); SCRATCH];
+    let body = Stored {
+        record: &record,
+        weights,
+    };
     let mut cells = [Grey::new(8); 17];
-    let (depth, digits, prefix) = numbers;
-    if weights.len() != BAY
-        || print(
-            &place,
-            weights,
-            depth,
-            digits,
-            prefix,
-            &mut scratch,
-            &mut cells,
-        )
-        .is_err()
-    {
-        return false;
-    }
-    begins(&cells, greys)
+    print(body, tile, &mut [Grey::new(9); SCRATCH], &mut cells).is_ok() && begins(&cells, greys)
 }
 
 #[test]
@@ -85,19 +56,19 @@ fn ramp_tiles(rt: HostRuntime) {
             2,
             &arcs,
             &weights,
-            (2, 0, 0),
+            tile_of(2, 0, 0),
             &[0, 1, 2, 3, 0, 1, 2, 3, 0, 1, 2, 3, 0, 1, 2, 3],
         )
     );
-    assert!(rt; shows(2, &arcs, &weights, (2, 1, 1), &[2, 3, 2, 3]));
-    assert!(rt; shows(2, &arcs, &weights, (2, 2, 7), &[3]));
-    assert!(rt; shows(2, &arcs, &weights, (0, 0, 0), &[0]));
+    assert!(rt; shows(2, &arcs, &weights, tile_of(2, 1, 1), &[2, 3, 2, 3]));
+    assert!(rt; shows(2, &arcs, &weights, tile_of(2, 2, 7), &[3]));
+    assert!(rt; shows(2, &arcs, &weights, tile_of(0, 0, 0), &[0]));
     assert!(rt;
         shows(
             2,
             &arcs,
             &weights,
-            (12, 11, 4_194_303),
+            tile_of(12, 11, 4_194_303),
             &[4094, 4095, 4094, 4095],
         )
     );
@@ -105,24 +76,26 @@ fn ramp_tiles(rt: HostRuntime) {
 
 /// What printing a row of the ramp's tile at depth 3 under digit 1 answers.
 fn ramp_row(y: usize, cells: &mut [Grey]) -> Option<Result<usize, Fault>> {
-    let Some(place) = Record::new(2, &ramp()) else {
-        return None;
-    };
+    let record = &Record::new(2, &ramp())?;
     let mut weights = [Grey::new(0); BAY];
-    let mut scratch = [Grey::new(9); SCRATCH];
     fill_ramp(&mut weights);
-    Some(print_row(&place, &weights, 3, 1, 1, y, &mut scratch, cells))
+    let body = Stored {
+        record,
+        weights: &weights,
+    };
+    let mut scratch = [Grey::new(9); SCRATCH];
+    Some(print_row(body, tile_of(3, 1, 1), y, &mut scratch, cells))
 }
 
 #[test]
 fn rows_of_a_tile(rt: HostRuntime) {
     let mut few = [Grey::new(8); 3];
-    assert!(rt; matches!(ramp_row(2, &mut few), Some(Err(Fault::ShortOutput))));
+    assert_eq!(rt; ramp_row(2, &mut few), Some(Err(Fault::ShortOutput)));
     assert!(rt; begins(&few, &[]));
     let mut cells = [Grey::new(8); 5];
-    assert!(rt; matches!(ramp_row(4, &mut cells), Some(Err(Fault::NoTile))));
+    assert_eq!(rt; ramp_row(4, &mut cells), Some(Err(Fault::NoTile)));
     assert!(rt; begins(&cells, &[]));
-    assert!(rt; matches!(ramp_row(2, &mut cells), Some(Ok(4))));
+    assert_eq!(rt; ramp_row(2, &mut cells), Some(Ok(4)));
     assert!(rt; begins(&cells, &[4, 5, 6, 7]));
 }
 
@@ -138,16 +111,6 @@ fn fill_numbers(weights: &mut [Grey]) {
     }
 }
 
-/// An arc for each digit.
-fn fan(from: u8, to: u8) -> [Arc; 4] {
-    [
-        arc(from, to, Quadrant::UpperLeft),
-        arc(from, to, Quadrant::UpperRight),
-        arc(from, to, Quadrant::LowerLeft),
-        arc(from, to, Quadrant::LowerRight),
-    ]
-}
-
 /// The number of the cell's address at depth 6: its digits take a bit of the row and one of the column each.
 fn number(x: usize, y: usize) -> usize {
     let mut number = 0usize;
@@ -160,12 +123,10 @@ fn number(x: usize, y: usize) -> usize {
 
 /// Whether each cell of a tile has the number of its address, counted from a start.
 fn in_order(cells: &[Grey], start: usize) -> bool {
-    let mut same = true;
-    for (i, cell) in cells.iter().enumerate() {
+    cells.iter().enumerate().all(|(i, cell)| {
         let due = start.wrapping_add(number(i % 64, i / 64)) % 65_536;
-        same = same && cell.number() as usize == due;
-    }
-    same
+        cell.number() as usize == due
+    })
 }
 
 #[test]
@@ -174,16 +135,20 @@ fn a_full_tile_in_order(rt: HostRuntime) -> Result<(), Fail> {
     let arcs = [
         a[0], a[1], a[2], a[3], b[0], b[1], b[2], b[3], c[0], c[1], c[2], c[3],
     ];
-    let Some(place) = Record::new(2, &arcs) else {
+    let Some(record) = Record::new(2, &arcs) else {
         return Err(Fail::new("no record"));
     };
     let mut weights = [Grey::new(0); BAY];
+    fill_numbers(&mut weights);
+    let body = Stored {
+        record: &record,
+        weights: &weights,
+    };
     let mut scratch = [Grey::new(9); SCRATCH];
     let mut cells = [Grey::new(8); 4096];
-    fill_numbers(&mut weights);
-    assert!(rt; print(&place, &weights, 6, 0, 0, &mut scratch, &mut cells).is_ok());
+    assert!(rt; print(body, tile_of(6, 0, 0), &mut scratch, &mut cells).is_ok());
     assert!(rt; in_order(&cells, 0));
-    assert!(rt; print(&place, &weights, 8, 2, 6, &mut scratch, &mut cells).is_ok());
+    assert!(rt; print(body, tile_of(8, 2, 6), &mut scratch, &mut cells).is_ok());
     assert!(rt; in_order(&cells, 6 * 4096));
     Ok(())
 }
@@ -197,31 +162,37 @@ fn parallel_arcs_add_up(rt: HostRuntime) {
     let mut weights = [Grey::new(1); BAY];
     weights[128] = Grey::new(2);
     weights[129] = Grey::new(3);
-    assert!(rt; shows(1, &both, &weights, (1, 0, 0), &[5, 0, 0, 0]));
+    assert!(rt; shows(1, &both, &weights, tile_of(1, 0, 0), &[5, 0, 0, 0]));
 }
 
 #[test]
 fn no_states(rt: HostRuntime) {
-    assert!(rt; shows(0, &[], &[Grey::new(7); BAY], (1, 0, 0), &[0, 0, 0, 0]));
+    assert!(rt;
+        shows(
+            0,
+            &[],
+            &[Grey::new(7); BAY],
+            tile_of(1, 0, 0),
+            &[0, 0, 0, 0]
+        )
+    );
     assert!(rt; Record::new(0, &[arc(0, 0, Quadrant::UpperLeft)]).is_none());
     assert!(rt; Record::new(65, &[]).is_none());
 }
 
 /// The ramp's cell in the lower right at depth 2, on any kind, by the plain evaluation.
 fn corner<W: Weight>(weights: &mut [W], scratch: &mut [W]) -> Option<W> {
-    let Some(place) = Record::new(2, &ramp()) else {
-        return None;
-    };
+    let record = Record::new(2, &ramp())?;
     if weights.len() != BAY || scratch.len() != 128 {
         return None;
     }
     fill_ramp(weights);
-    Some(cell(
-        &place,
+    let body = Stored {
+        record: &record,
         weights,
-        &[Quadrant::LowerRight, Quadrant::LowerRight],
-        scratch,
-    ))
+    };
+    let address = [Quadrant::LowerRight, Quadrant::LowerRight];
+    Some(cell(body, &address, scratch))
 }
 
 #[test]
@@ -267,31 +238,25 @@ fn bits_of_kinds(rt: HostRuntime) -> Result<(), Fail> {
 }
 
 /// Why a blank body's tile is not printed into so many cells.
-fn fault(numbers: (usize, usize, usize), cells: &mut [Grey]) -> Option<Fault> {
-    let Some(place) = Record::new(0, &[]) else {
-        return None;
+fn fault(tile: Tile, cells: &mut [Grey]) -> Option<Fault> {
+    let record = &Record::new(0, &[])?;
+    let body = Stored {
+        record,
+        weights: &[Grey::new(7); BAY],
     };
-    let mut scratch = [Grey::new(9); SCRATCH];
-    let (depth, digits, prefix) = numbers;
-    print(
-        &place,
-        &[Grey::new(7); BAY],
-        depth,
-        digits,
-        prefix,
-        &mut scratch,
-        cells,
-    )
-    .err()
+    print(body, tile, &mut [Grey::new(9); SCRATCH], cells).err()
 }
 
 #[test]
 fn refusals(rt: HostRuntime) {
     let mut cells = [Grey::new(8); 16];
-    assert!(rt; matches!(fault((13, 13, 0), &mut cells), Some(Fault::NoTile)));
-    assert!(rt; matches!(fault((2, 3, 0), &mut cells), Some(Fault::NoTile)));
-    assert!(rt; matches!(fault((7, 0, 0), &mut cells), Some(Fault::NoTile)));
-    assert!(rt; matches!(fault((2, 1, 4), &mut cells), Some(Fault::NoTile)));
-    assert!(rt; matches!(fault((3, 0, 0), &mut cells), Some(Fault::ShortOutput)));
-    assert!(rt; fault((2, 0, 0), &mut cells).is_none());
+    assert_eq!(rt; fault(tile_of(13, 13, 0), &mut cells), Some(Fault::NoTile));
+    assert_eq!(rt; fault(tile_of(2, 3, 0), &mut cells), Some(Fault::NoTile));
+    assert_eq!(rt; fault(tile_of(7, 0, 0), &mut cells), Some(Fault::NoTile));
+    assert_eq!(rt; fault(tile_of(2, 1, 4), &mut cells), Some(Fault::NoTile));
+    assert_eq!(rt;
+        fault(tile_of(3, 0, 0), &mut cells),
+        Some(Fault::ShortOutput)
+    );
+    assert!(rt; fault(tile_of(2, 0, 0), &mut cells).is_none());
 }

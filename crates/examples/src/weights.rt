@@ -1,14 +1,7 @@
 //! Tests of the kinds of weight.
+use crate::pairs::{Eight, Nine, Two};
 use std::test::Fail;
 use weight::{Grey, Height, Ink, Mask, Pair, Valve, Weight, Written};
-
-type Two = Pair<Ink, Height>;
-
-type Four = Pair<Two, Two>;
-
-type Eight = Pair<Four, Four>;
-
-type Nine = Pair<Eight, Ink>;
 
 #[test]
 fn worked_values(rt: HostRuntime) {
@@ -75,8 +68,8 @@ fn pair_of_pairs(rt: HostRuntime) -> Result<(), Fail> {
     let Some(weight) = Eight::read(&EIGHT) else {
         return Err(Fail::new("eight words are not read"));
     };
-    for i in 0..8 {
-        assert_eq!(rt; weight.word(i), EIGHT[i]);
+    for (i, word) in EIGHT.iter().enumerate() {
+        assert_eq!(rt; weight.word(i), *word);
     }
     assert_eq!(rt; weight.word(8), 0);
     assert!(rt; Eight::read(&EIGHT[0..7]).is_none());

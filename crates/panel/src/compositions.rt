@@ -1,13 +1,10 @@
 //! Two embedded drawings composed by each operation.
-ghost use Rattle.std.specs.Prelude.{◌≡◌, length};
-ghost use Rattle.picture.specs.Stored.{Kept};
-
 use crate::drawings::parse;
 use crate::embedded::{FLAT, RAMP};
-use crate::tiles::{Tile, numbers};
+use crate::tiles::{WHOLE, numbers};
 use anyhow::anyhow;
 use compose::{add, mirror, turn, zoom};
-use picture::{BAY, Quadrant, Record};
+use picture::{BAY, Quadrant, Stored};
 use piece::piece;
 use product::multiply;
 use weight::Grey;
@@ -17,62 +14,54 @@ use words::read;
 pub(crate) fn show(rt: &HostRuntime) -> anyhow::Result<()> {
     let mut front = [Grey::new(0); BAY];
     let mut back = [Grey::new(0); BAY];
-    let mut out = [Grey::new(0); BAY];
-    let (Ok(a), Ok(b)) = (
+    let (Ok(ramp), Ok(flat)) = (
         read::<Grey>(&parse(rt, RAMP)?, &mut front),
         read::<Grey>(&parse(rt, FLAT)?, &mut back),
     ) else {
         return Err(anyhow!("an embedded drawing is not read"));
     };
-    one(rt, &a, &front, &mut out)?;
-    two(rt, &a, &front, &b, &back, &mut out)
+    let a = Stored {
+        record: &ramp,
+        weights: &front,
+    };
+    let b = Stored {
+        record: &flat,
+        weights: &back,
+    };
+    one(rt, a)?;
+    two(rt, a, b)
 }
 
 /// Mirrors, turns and zooms a drawing.
-fn one(rt: &HostRuntime, a: &Record, weights: &[Grey], out: &mut [Grey]) -> anyhow::Result<()>
-    requires kept { Kept a.now }
-    requires weights { length weights.now ≡ 640 }
-    requires out { length out.old ≡ 640 }
-{
+fn one(rt: &HostRuntime, a: Stored<'_, Grey>) -> anyhow::Result<()> {
+    let weights = &mut [Grey::new(0); BAY];
     println!(rt; "|A")?;
-    let mirrored = mirror(a, weights, out);
-    numbers(rt, &mirrored, out, Tile::WHOLE)?;
+    let record = &mirror(a, weights);
+    numbers(rt, Stored { record, weights }, WHOLE)?;
     println!(rt; "@A")?;
-    let turned = turn(a, weights, out);
-    numbers(rt, &turned, out, Tile::WHOLE)?;
+    let record = &turn(a, weights);
+    numbers(rt, Stored { record, weights }, WHOLE)?;
     println!(rt; "^1A")?;
-    let zoomed = zoom(a, weights, Quadrant::UpperRight, out);
-    numbers(rt, &zoomed, out, Tile::WHOLE)
+    let record = &zoom(a, Quadrant::UpperRight, weights);
+    numbers(rt, Stored { record, weights }, WHOLE)
 }
 
 /// Adds, multiplies and pieces drawings.
-fn two(
-    rt: &HostRuntime,
-    a: &Record,
-    front: &[Grey],
-    b: &Record,
-    back: &[Grey],
-    out: &mut [Grey],
-) -> anyhow::Result<()>
-    requires kept_a { Kept a.now }
-    requires kept_b { Kept b.now }
-    requires front { length front.now ≡ 640 }
-    requires back { length back.now ≡ 640 }
-    requires out { length out.old ≡ 640 }
-{
-    let Ok(sum) = add(a, front, b, back, out) else {
+fn two(rt: &HostRuntime, a: Stored<'_, Grey>, b: Stored<'_, Grey>) -> anyhow::Result<()> {
+    let weights = &mut [Grey::new(0); BAY];
+    let Ok(record) = &add(a, b, weights) else {
         return Err(anyhow!("the sum passes a limit"));
     };
     println!(rt; "A+B")?;
-    numbers(rt, &sum, out, Tile::WHOLE)?;
-    let Ok(square) = multiply(a, front, a, front, out) else {
+    numbers(rt, Stored { record, weights }, WHOLE)?;
+    let Ok(record) = &multiply(a, a, weights) else {
         return Err(anyhow!("the product passes a limit"));
     };
     println!(rt; "A*A")?;
-    numbers(rt, &square, out, Tile::WHOLE)?;
-    let Ok(pieced) = piece(a, front, b, back, b, back, a, front, out) else {
+    numbers(rt, Stored { record, weights }, WHOLE)?;
+    let Ok(record) = &piece(a, b, b, a, weights) else {
         return Err(anyhow!("the piecing passes a limit"));
     };
     println!(rt; "[A,B,B,A]")?;
-    numbers(rt, &pieced, out, Tile::WHOLE)
+    numbers(rt, Stored { record, weights }, WHOLE)
 }

@@ -1,13 +1,9 @@
 //! A drawing of one kind: read from words, shown as numbers or as a picture, and written back.
-ghost use Rattle.std.specs.Prelude.{◌≡◌, length};
-ghost use Rattle.picture.specs.Stored.{Kept};
-
 use crate::embedded::RAMP;
 use crate::kinds::Task;
-use crate::room::zeros;
 use crate::shown::Shown;
 use crate::tiles::{numbers, picture};
-use picture::{BAY, Record};
+use picture::{BAY, Stored};
 use std::io;
 use words::{Fault, read, write};
 
@@ -32,33 +28,30 @@ pub(crate) fn parse(rt: &HostRuntime, text: &str) -> anyhow::Result<Vec<u32>> {
 
 /// Reads a body of one kind, and carries out the task on it.
 pub(crate) fn work<W: Shown>(rt: &HostRuntime, given: &[u32], task: Task) -> anyhow::Result<()> {
-    let mut weights = zeros::<W>(rt.alloc(), BAY)?;
-    match read::<W>(given, &mut weights) {
-        Err(fault) => refuse(rt, fault),
-        Ok(place) => match task {
-            Task::Show(tile) => {
-                numbers(rt, &place, &weights, tile)?;
-                write_back(rt, &place, &weights, given.len())
-            }
-            Task::Picture(tile) => picture(rt, &place, &weights, tile),
-        },
+    let mut weights = vec![in rt.alloc(); W::zero(); BAY]?;
+    let place = match read::<W>(given, &mut weights) {
+        Ok(place) => place,
+        Err(fault) => return refuse(rt, fault),
+    };
+    let body = Stored {
+        record: &place,
+        weights: &weights,
+    };
+    match task {
+        Task::Show(tile) => {
+            numbers(rt, body, tile)?;
+            write_back(rt, body, given.len())
+        }
+        Task::Picture(tile) => picture(rt, body, tile),
     }
 }
 
 /// The words of the body, written again into so much room.
-fn write_back<W: Shown>(
-    rt: &HostRuntime,
-    place: &Record,
-    weights: &[W],
-    room: usize,
-) -> anyhow::Result<()>
-    requires kept { Kept place.now }
-    requires weights { length weights.now ≡ 640 }
-{
+fn write_back<W: Shown>(rt: &HostRuntime, body: Stored<'_, W>, room: usize) -> anyhow::Result<()> {
     let mut words = vec![in rt.alloc(); 0u32; room]?;
-    if let Err(fault) = write(place, weights, &mut words) {
+    if let Err(fault) = write(body, &mut words) {
         let number = fault.number();
-        println!(rt; "refused {number}: the body is not written")?;
+        println!(rt; "refused {number}: {fault}")?;
         return Ok(());
     }
     print!(rt; "words")?;
@@ -72,15 +65,9 @@ fn write_back<W: Shown>(
 /// Why words are not those of a body.
 fn refuse(rt: &HostRuntime, fault: Fault) -> anyhow::Result<()> {
     let number = fault.number();
-    let why = match fault {
-        Fault::Width => "the kind is too wide to be written",
-        Fault::Head => "no word, or a head with a wrong tag, code, width, zero bit or count",
-        Fault::Count => "another number of words than the head calls for",
-        Fault::Piece(_) => "a wrong arc word, or a weight that no value has",
-    };
     match fault.index() {
-        Some(word) => println!(rt; "refused {number} word {word}: {why}")?,
-        None => println!(rt; "refused {number}: {why}")?,
+        Some(word) => println!(rt; "refused {number} word {word}: {fault}")?,
+        None => println!(rt; "refused {number}: {fault}")?,
     }
     Ok(())
 }

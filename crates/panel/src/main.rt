@@ -6,14 +6,12 @@ mod drawings;
 mod embedded;
 mod kinds;
 mod recipes;
-mod room;
 mod shown;
 mod tiles;
 
 use anyhow::anyhow;
 use kinds::Task;
 use std::env;
-use tiles::Tile;
 
 /// How the program is called.
 const USAGE: &str =
@@ -22,7 +20,7 @@ const USAGE: &str =
 /// What is done where no argument asks for something else.
 fn tour(rt: &HostRuntime) -> anyhow::Result<()> {
     let words = drawings::input(rt)?;
-    kinds::carry_out(rt, &words, Task::Show(Tile::WHOLE))?;
+    kinds::carry_out(rt, &words, Task::Show(tiles::WHOLE))?;
     compositions::show(rt)?;
     recipes::explain(rt, embedded::RECIPE)
 }
@@ -36,11 +34,11 @@ fn run(rt: &HostRuntime) -> anyhow::Result<()> {
     match (command.as_str(), first, second, third) {
         ("recipe", Some(line), None, None) => recipes::explain(rt, line.as_str()),
         ("show", Some(depth), Some(length), Some(prefix)) => {
-            let tile = Tile::parse(depth.as_str(), length.as_str(), prefix.as_str())?;
+            let tile = tiles::parse(depth.as_str(), length.as_str(), prefix.as_str())?;
             kinds::carry_out(rt, &drawings::input(rt)?, Task::Show(tile))
         }
         ("picture", Some(depth), Some(length), Some(prefix)) => {
-            let tile = Tile::parse(depth.as_str(), length.as_str(), prefix.as_str())?;
+            let tile = tiles::parse(depth.as_str(), length.as_str(), prefix.as_str())?;
             kinds::carry_out(rt, &drawings::input(rt)?, Task::Picture(tile))
         }
         _ => Err(anyhow!(USAGE)),

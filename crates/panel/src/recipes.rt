@@ -20,21 +20,15 @@ pub(crate) fn explain(rt: &HostRuntime, line: &str) -> anyhow::Result<()> {
 /// A line with a caret, and one that says why.
 fn refuse(rt: &HostRuntime, fault: Fault) -> anyhow::Result<()> {
     let number = fault.number();
-    let why = match fault {
-        Fault::TooLong => "more than 512 bytes",
-        Fault::Grammar(_) => "a byte or an end that the grammar does not allow",
-        Fault::Level(_) => "a level above 16",
-        Fault::Waiting(_) => "a seventh waiting picture",
-    };
     match fault.byte() {
         Some(byte) => {
             for _ in 0..byte {
                 print!(rt; " ")?;
             }
             println!(rt; "       ^")?;
-            println!(rt; "refused {number} byte {byte}: {why}")?;
+            println!(rt; "refused {number} byte {byte}: {fault}")?;
         }
-        None => println!(rt; "refused {number}: {why}")?,
+        None => println!(rt; "refused {number}: {fault}")?,
     }
     Ok(())
 }

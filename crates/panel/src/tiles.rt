@@ -1,78 +1,43 @@
 //! Tiles as text and as pictures.
-ghost use Rattle.std.specs.Prelude.{◌≡◌, length};
-ghost use Rattle.picture.specs.Stored.{Kept};
+ghost use Rattle.std.specs.Prelude.{◌≤◌};
 
-use crate::room::zeros;
 use crate::shown::Shown;
 use anyhow::anyhow;
-use picture::Record;
-use tile::{SCRATCH, print};
+use picture::Stored;
+use tile::{SCRATCH, Tile, print};
 
-/// The cells at a depth under a prefix of so many digits.
-#[derive(Clone, Copy)]
-pub(crate) struct Tile {
-    pub depth: usize,
-    pub digits: usize,
-    pub prefix: usize,
+/// All cells at depth 2.
+pub(crate) const WHOLE: Tile = Tile {
+    depth: 2,
+    digits: 0,
+    prefix: 0,
+};
+
+/// The tile that three numbers name.
+pub(crate) fn parse(depth: &str, digits: &str, prefix: &str) -> anyhow::Result<Tile> {
+    Ok(Tile {
+        depth: depth.parse::<usize>()?,
+        digits: digits.parse::<usize>()?,
+        prefix: prefix.parse::<usize>()?,
+    })
 }
 
-impl Tile {
-    /// All cells at depth 2.
-    pub(crate) const WHOLE: Tile = Tile {
-        depth: 2,
-        digits: 0,
-        prefix: 0,
-    };
-
-    /// The tile that three numbers name.
-    pub(crate) fn parse(depth: &str, digits: &str, prefix: &str) -> anyhow::Result<Tile> {
-        Ok(Tile {
-            depth: depth.parse::<usize>()?,
-            digits: digits.parse::<usize>()?,
-            prefix: prefix.parse::<usize>()?,
-        })
-    }
-
-    /// How many cells it has, if it can be printed.
-    fn room(self) -> usize {
-        let deep = self.depth.saturating_sub(self.digits).min(6);
-        1 << (2 * deep)
-    }
-
-    /// How many cells there are in a row.
-    fn side(self) -> usize {
-        let deep = self.depth.saturating_sub(self.digits).min(6);
-        1 << deep
-    }
+/// How many digits of a cell follow the prefix, in a tile that can be printed.
+fn below(tile: Tile) -> usize
+    ensures { result ≤ 6 }
+{
+    tile.depth.saturating_sub(tile.digits).min(6)
 }
 
 /// The tile's cells, or none with an explanation.
-fn cells<W: Shown>(
-    rt: &HostRuntime,
-    place: &Record,
-    weights: &[W],
-    tile: Tile,
-) -> anyhow::Result<Vec<W>>
-    requires kept { Kept place.now }
-    requires weights { length weights.now ≡ 640 }
-{
-    let mut scratch = zeros::<W>(rt.alloc(), SCRATCH)?;
-    let mut cells = zeros::<W>(rt.alloc(), tile.room())?;
-    match print(
-        place,
-        weights,
-        tile.depth,
-        tile.digits,
-        tile.prefix,
-        &mut scratch,
-        &mut cells,
-    ) {
+fn cells<W: Shown>(rt: &HostRuntime, body: Stored<'_, W>, tile: Tile) -> anyhow::Result<Vec<W>> {
+    let mut scratch = vec![in rt.alloc(); W::zero(); SCRATCH]?;
+    let mut cells = vec![in rt.alloc(); W::zero(); 1 << (2 * below(tile))]?;
+    match print(body, tile, &mut scratch, &mut cells) {
         Ok(_) => Ok(cells),
         Err(fault) => {
             let number = fault.number();
-            Err(anyhow!(format!(in rt.alloc();
-                "refused {number}: the numbers name no tile that can be printed"
-            )?))
+            Err(anyhow!(format!(in rt.alloc(); "refused {number}: {fault}")?))
         }
     }
 }
@@ -80,25 +45,20 @@ fn cells<W: Shown>(
 /// A line of numbers for each row of a tile.
 pub(crate) fn numbers<W: Shown>(
     rt: &HostRuntime,
-    place: &Record,
-    weights: &[W],
+    body: Stored<'_, W>,
     tile: Tile,
-) -> anyhow::Result<()>
-    requires kept { Kept place.now }
-    requires weights { length weights.now ≡ 640 }
-{
-    let cells = cells(rt, place, weights, tile)?;
-    rows(rt, &cells, tile.side())
+) -> anyhow::Result<()> {
+    let cells = cells(rt, body, tile)?;
+    rows(rt, &cells, 1 << below(tile))
 }
 
 /// Rows of cells as numbers.
 fn rows<W: Shown>(rt: &HostRuntime, cells: &[W], side: usize) -> anyhow::Result<()> {
     for (i, cell) in cells.iter().enumerate() {
-        let text = cell.show(rt.alloc())?;
         if (i + 1) % side.max(1) == 0 {
-            println!(rt; "{text}")?;
+            println!(rt; "{cell}")?;
         } else {
-            print!(rt; "{text} ")?;
+            print!(rt; "{cell} ")?;
         }
     }
     Ok(())
@@ -107,18 +67,14 @@ fn rows<W: Shown>(rt: &HostRuntime, cells: &[W], side: usize) -> anyhow::Result<
 /// A tile as a plain PGM, or as a plain PBM where there are two shades.
 pub(crate) fn picture<W: Shown>(
     rt: &HostRuntime,
-    place: &Record,
-    weights: &[W],
+    body: Stored<'_, W>,
     tile: Tile,
-) -> anyhow::Result<()>
-    requires kept { Kept place.now }
-    requires weights { length weights.now ≡ 640 }
-{
-    let Some(largest) = W::largest() else {
+) -> anyhow::Result<()> {
+    let Some(largest) = W::LARGEST else {
         return Err(anyhow!("a picture is of mask, grey or ink"));
     };
-    let cells = cells(rt, place, weights, tile)?;
-    let side = tile.side();
+    let cells = cells(rt, body, tile)?;
+    let side = 1usize << below(tile);
     if largest == 1 {
         println!(rt; "P1\n{side} {side}")?;
     } else {
