@@ -29,6 +29,7 @@ fn address(x: usize, y: usize) -> [Quadrant; 6] {
 }
 
 /// Prints the tile over and over.
+// The length is a clause, and no array type: memory is lent as one slice.
 fn print_often(body: Stored<'_, Grey>, scratch: &mut [Grey], cells: &mut [Grey])
     requires { length scratch.old ≡ 2688 }
 {
@@ -44,7 +45,7 @@ fn evaluate(body: Stored<'_, Grey>, cells: &[Grey], room: &mut [Grey]) -> bool
     let mut agree = true;
     for (i, due) in cells.iter().enumerate() {
         let here = cell(body, &address(i % 64, i / 64), room);
-        agree = agree && here.number() == due.number();
+        agree = agree && here == *due;
     }
     agree
 }

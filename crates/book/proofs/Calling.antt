@@ -24,6 +24,7 @@ use Rattle.book.specs.Meanings.{Book, noted}
 use Rattle.book.specs.Refusals.{coded}
 use Rattle.book.specs.Statements.{AllLimited}
 use Rattle.book.proofs.Evaluating.{pictures}
+use Rattle.book.proofs.Singling.{one_found}
 use Rattle.book.proofs.Running.{put_keeps, put_through, Did, did, all_done}
 
 pub blank_limited : {W : Type 0} → Limited {W = W} blank
@@ -65,9 +66,6 @@ module _ {W : Type 0} (k : Kind W) (laws : Laws k) (v : Writing W) (words : Word
     puts : (p : Place) (b : Body W) → pictures k (put p b at) ≡ put p (picture k b) (pictures k at)
     puts p b = fun_ext (put_through (picture k) p b at)
 
-    same_some : {p q : Place} (found : Option Place) → found ≡ Some p → found ≡ Some q → q ≡ p
-    same_some found a b = cc
-
     enter_step : (n : ℕ) (p : Place) → place n ≡ Some p → (given : List ℕ) (o : Outcome W) → Enters k v at p given o → Step at (Enter n given) o
     enter_step n p e given o (not_entered {f} h) = refuse (Enter n given) (NotEntered f) refl
     enter_step n p e given o (entered {b} h) = record {
@@ -76,7 +74,7 @@ module _ {W : Type 0} (k : Kind W) (laws : Laws k) (v : Writing W) (words : Word
       told = (p, b, e, h, puts p b);
       only = λ next x.
           x.4
-          ∙ ap (λ (q : Place). put q (picture k x.1) (pictures k at)) (same_some (place n) e x.2)
+          ∙ ap (λ (q : Place). put q (picture k x.1) (pictures k at)) (one_found (place n) e x.2)
           ∙ ap (λ (c : Body W). put p (picture k c) (pictures k at)) (one_body v words x.1 b given x.3 h)
           ∙ sym (puts p b);
     }
@@ -109,7 +107,7 @@ module _ {W : Type 0} (k : Kind W) (laws : Laws k) (v : Writing W) (words : Word
       limited = put_keeps Limited p blank at blank_limited limited;
       agrees = tt;
       told = (p, e, puts p blank);
-      only = λ next x. x.2 ∙ ap (λ (q : Place). put q (λ w. k.zero) (pictures k at)) (same_some (place n) e x.1) ∙ sym (puts p blank);
+      only = λ next x. x.2 ∙ ap (λ (q : Place). put q (λ w. k.zero) (pictures k at)) (one_found (place n) e x.1) ∙ sym (puts p blank);
     }
 
     write_step : (n room : ℕ) (p : Place) → place n ≡ Some p → (o : Outcome W) → Writes k v at p room o → Step at (Write n room) o

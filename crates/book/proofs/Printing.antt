@@ -1,7 +1,7 @@
 -- Runs of two scripts that differ by uses of the laws print alike.
 use Rattle.std.proofs.Common.{◌≡◌, ℕ, zero, suc, ◌-◌, ◌^◌, ◌≤◌, Bool, true, false, cond, ltb, List, [], ◌∷◌, ◌++◌, map, length, Some, None, Ok, Err, Option, Result, sym, refl, ap, ◌∙◌, subst, ap₂, arith, MatchOption}
 use Rattle.std.specs.List.{range_with_len, flat_map}
-use Rattle.std.proofs.lemmas.List.{length-append}
+use Rattle.std.proofs.lemmas.List.{length-append, map-append}
 use Rattle.weight.specs.Kinds.{Kind, Laws}
 use Rattle.weight.specs.Words.{Writing}
 use Rattle.picture.specs.Cells.{cell, base_four, row_of_cells, tile}
@@ -40,16 +40,12 @@ module _ {W : Type 0} (f g : Picture W) (depth j n : ℕ) (le : j ≤ depth) (sa
   row_same y [] = refl
   row_same y (x ∷ xs) = ap₂ ◌∷◌ (same _ (deep x y)) (row_same y xs)
 
-  map_++ : (h : Picture W) (us vs : List Address) → map h (us ++ vs) ≡ map h us ++ map h vs
-  map_++ h [] vs = refl
-  map_++ h (u ∷ us) vs = ap (λ (r : List W). h u ∷ r) (map_++ h us vs)
-
   rows_same : (ys : List ℕ) → map f (flat_map (row_of_cells (base_four j n) (depth - j)) ys) ≡ map g (flat_map (row_of_cells (base_four j n) (depth - j)) ys)
   rows_same [] = refl
   rows_same (y ∷ ys) =
       let row = row_of_cells (base_four j n) (depth - j) y in
       let rest = flat_map (row_of_cells (base_four j n) (depth - j)) ys in
-      map_++ f row rest ∙ ap₂ ◌++◌ (row_same y (range_with_len 0 (2 ^ (depth - j)))) (rows_same ys) ∙ sym (map_++ g row rest)
+      map-append f row rest ∙ ap₂ ◌++◌ (row_same y (range_with_len 0 (2 ^ (depth - j)))) (rows_same ys) ∙ sym (map-append g row rest)
 
   pub tile_same : map f (tile depth j n) ≡ map g (tile depth j n)
   tile_same = rows_same (range_with_len 0 (2 ^ (depth - j)))
@@ -89,20 +85,17 @@ module _ {W : Type 0} (k : Kind W) (v : Writing W) where
   both_memory at to x y true on p q = shown_as at to (Err ShortMemory) Nothing x y p q
   both_memory at to x y false on p q = on p q
 
-  never : {T : Type 0} → ⊥ → T
-  never z = elim z [ ]
-
   -- the same cells at both places' bodies
   prints_same : (at to : Places W) (p : Place) (depth j n room : ℕ) → ((w : Address) → length w ≡ depth → picture k (at p) w ≡ picture k (to p) w)
       → (x y : Outcome W) → Prints k v at p depth j n room x → Prints k v to p depth j n room y → SameShown x y
   prints_same at to p depth j n room same x y (no_tile a) (no_tile b) = (refl, refl)
-  prints_same at to p depth j n room same x y (no_tile a) (no_room b l) = never (a b)
-  prints_same at to p depth j n room same x y (no_tile a) (printed b l) = never (a b)
-  prints_same at to p depth j n room same x y (no_room a h) (no_tile b) = never (b a)
+  prints_same at to p depth j n room same x y (no_tile a) (no_room b l) = absurd (a b)
+  prints_same at to p depth j n room same x y (no_tile a) (printed b l) = absurd (a b)
+  prints_same at to p depth j n room same x y (no_room a h) (no_tile b) = absurd (b a)
   prints_same at to p depth j n room same x y (no_room a h) (no_room b l) = (refl, refl)
-  prints_same at to p depth j n room same x y (no_room a h) (printed b l) = never (omega arith)
-  prints_same at to p depth j n room same x y (printed a h) (no_tile b) = never (b a)
-  prints_same at to p depth j n room same x y (printed a h) (no_room b l) = never (omega arith)
+  prints_same at to p depth j n room same x y (no_room a h) (printed b l) = absurd (omega arith)
+  prints_same at to p depth j n room same x y (printed a h) (no_tile b) = absurd (b a)
+  prints_same at to p depth j n room same x y (printed a h) (no_room b l) = absurd (omega arith)
   prints_same at to p depth j n room same x y (printed a h) (printed b l) =
       (refl, ap (λ (cs : List W). Cells cs) (tile_same (picture k (at p)) (picture k (to p)) depth j n a.length_to same))
 

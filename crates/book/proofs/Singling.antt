@@ -27,8 +27,9 @@ use Rattle.book.specs.Statements.{OneOutcome}
 pub not_both : {T : Type 0} {n : ℕ} {r : Refusal} (a : Result ℕ Refusal) → a ≡ Ok n → a ≡ Err r → T
 not_both a p q = let z : ◌≡◌ {A = ℕ} 0 1 = cc in let w : ⊥ = omega arith in elim w [ ]
 
-never : {T : Type 0} → ⊥ → T
-never z = elim z [ ]
+-- a number names one place
+pub one_found : {p q : Place} (found : Option Place) → found ≡ Some p → found ≡ Some q → q ≡ p
+one_found found a b = cc
 
 module _ {W : Type 0} (k : Kind W) (v : Writing W) where
   -- a call that is answered passed the test of its memory, and found its place
@@ -52,8 +53,8 @@ module _ {W : Type 0} (k : Kind W) (v : Writing W) where
 
     enters_one : (p : Place) (given : List ℕ) (x y : Outcome W) → Enters k v at p given x → Enters k v at p given y → x ≡ y
     enters_one p given x y (not_entered {f = e} h) (not_entered {f} l) = ap (λ (g : Fault). refused at (NotEntered g)) (one_fault v words given e f h l)
-    enters_one p given x y (not_entered {f = e} h) (entered {b} l) = never (no_body v words given e h b l)
-    enters_one p given x y (entered {b} h) (not_entered {f = e} l) = never (no_body v words given e l b h)
+    enters_one p given x y (not_entered {f = e} h) (entered {b} l) = absurd (no_body v words given e h b l)
+    enters_one p given x y (entered {b} h) (not_entered {f = e} l) = absurd (no_body v words given e l b h)
     enters_one p given x y (entered {b = a} h) (entered {b} l) = ap (λ (c : Body W). answers (put p c at) 0 Nothing) (one_body v words a b given h l)
 
     -- bytes that are refused are the text of no tree within the limits
@@ -64,31 +65,31 @@ module _ {W : Type 0} (k : Kind W) (v : Writing W) where
 
     runs_one : (given : List ℕ) (x y : Outcome W) → Runs k v at given x → Runs k v at given y → x ≡ y
     runs_one given x y (unread {f = e} h) (unread {f} l) = ap (λ (g : recipe.Fault). refused at (NotRun (Unread g))) (one_answer given (Err e) (Err f) h l)
-    runs_one given x y (unread {f = e} h) (performed t short l) = never (no_tree given e h t short l)
-    runs_one given x y (performed t short h) (unread {f = e} l) = never (no_tree given e l t short h)
+    runs_one given x y (unread {f = e} h) (performed t short l) = absurd (no_tree given e h t short l)
+    runs_one given x y (performed t short h) (unread {f = e} l) = absurd (no_tree given e l t short h)
     runs_one given x y (performed t short h) (performed u long l) =
         ap (λ (s : Tree script). ran (run_lines (drawing k) (lines s) at)) (unique t u (h.is ∙ sym l.is))
 
     writes_one : (p : Place) (room : ℕ) (x y : Outcome W) → Writes k v at p room x → Writes k v at p room y → x ≡ y
     writes_one p room x y (too_wide a) (too_wide b) = refl
-    writes_one p room x y (too_wide a) (too_short b l) = never (omega arith)
-    writes_one p room x y (too_wide a) (written b l) = never (omega arith)
-    writes_one p room x y (too_short a h) (too_wide b) = never (omega arith)
+    writes_one p room x y (too_wide a) (too_short b l) = absurd (omega arith)
+    writes_one p room x y (too_wide a) (written b l) = absurd (omega arith)
+    writes_one p room x y (too_short a h) (too_wide b) = absurd (omega arith)
     writes_one p room x y (too_short a h) (too_short b l) = refl
-    writes_one p room x y (too_short a h) (written b l) = never (omega arith)
-    writes_one p room x y (written a h) (too_wide b) = never (omega arith)
-    writes_one p room x y (written a h) (too_short b l) = never (omega arith)
+    writes_one p room x y (too_short a h) (written b l) = absurd (omega arith)
+    writes_one p room x y (written a h) (too_wide b) = absurd (omega arith)
+    writes_one p room x y (written a h) (too_short b l) = absurd (omega arith)
     writes_one p room x y (written a h) (written b l) = refl
 
     prints_one : (p : Place) (depth digits prefix room : ℕ) (x y : Outcome W) → Prints k v at p depth digits prefix room x → Prints k v at p depth digits prefix room y → x ≡ y
     prints_one p depth digits prefix room x y (no_tile a) (no_tile b) = refl
-    prints_one p depth digits prefix room x y (no_tile a) (no_room b l) = never (a b)
-    prints_one p depth digits prefix room x y (no_tile a) (printed b l) = never (a b)
-    prints_one p depth digits prefix room x y (no_room a h) (no_tile b) = never (b a)
+    prints_one p depth digits prefix room x y (no_tile a) (no_room b l) = absurd (a b)
+    prints_one p depth digits prefix room x y (no_tile a) (printed b l) = absurd (a b)
+    prints_one p depth digits prefix room x y (no_room a h) (no_tile b) = absurd (b a)
     prints_one p depth digits prefix room x y (no_room a h) (no_room b l) = refl
-    prints_one p depth digits prefix room x y (no_room a h) (printed b l) = never (omega arith)
-    prints_one p depth digits prefix room x y (printed a h) (no_tile b) = never (b a)
-    prints_one p depth digits prefix room x y (printed a h) (no_room b l) = never (omega arith)
+    prints_one p depth digits prefix room x y (no_room a h) (printed b l) = absurd (omega arith)
+    prints_one p depth digits prefix room x y (printed a h) (no_tile b) = absurd (b a)
+    prints_one p depth digits prefix room x y (printed a h) (no_room b l) = absurd (omega arith)
     prints_one p depth digits prefix room x y (printed a h) (printed b l) = refl
 
   pub one_outcome : WordLaws v → OneOutcome k v

@@ -11,7 +11,7 @@ use Rattle.recipe.specs.Places.{number, place}
 use Rattle.book.specs.declared.refusal.Refusal.TheVariants.{ShortMemory, NoPlace}
 use Rattle.book.specs.Calls.{Output, Nothing, Words, Outcome, Places, answers, refused, Enters, not_entered, entered, Writes, too_wide, too_short, written}
 use Rattle.book.specs.Statements.{EnteredBack, WrittenBack}
-use Rattle.book.proofs.Singling.{not_both, past_memory}
+use Rattle.book.proofs.Singling.{not_both, one_found, past_memory}
 
 -- what was put at a place stands there
 pub put_there : {V : Type 0} (p : Place) (v : V) (at : Place → V) → put p v at p ≡ v
@@ -49,9 +49,6 @@ module _ {W : Type 0} (k : Kind W) (v : Writing W) where
   same_words : (xs ys : List ℕ) (out : Output W) → out ≡ Words xs → out ≡ Words ys → xs ≡ ys
   same_words xs ys out p q = cc
 
-  same_place : (p q : Place) (found : Option Place) → found ≡ Some p → found ≡ Some q → q ≡ p
-  same_place p q found a b = cc
-
   -- a call with enough memory, at a place
   at_the : (T : Place → Type 0) (at : Places W) (o : Outcome W) (memory n : ℕ) (p : Place) → 10240 ≤ memory → place n ≡ Some p → T p
       → cond (ltb memory 10240) (o ≡ refused at ShortMemory) (MatchOption (place n) (o ≡ refused at NoPlace) T)
@@ -63,7 +60,7 @@ module _ {W : Type 0} (k : Kind W) (v : Writing W) where
   entered_back at memory n i given x e a p now later room is same enough fits =
       let f = found (λ p. Enters k v at p given x) at x i n memory a e in
       let u = was_put at f.p given x i a f.holds in
-      let here : f.p ≡ p = same_place p f.p (place n) is f.is in
+      let here : f.p ≡ p = one_found (place n) is f.is in
       let spelled : words_of v (now p) ≡ given =
       ap (words_of v) (same ∙ (λ j. u.after j p) ∙ (λ j. put (here j) u.b at p) ∙ put_there p u.b at) ∙ u.spells.spelled in
       let o = answers now (length given) (Words given) in
@@ -74,7 +71,7 @@ module _ {W : Type 0} (k : Kind W) (v : Writing W) where
   written_back at limited memory n room i given x w a out p q now later m is there enough =
       let g = found (λ r. Writes k v at r room x) at x i n memory a w in
       let z = was_written at g.p room x i a g.holds in
-      let here : g.p ≡ p = same_place p g.p (place n) is g.is in
+      let here : g.p ≡ p = one_found (place n) is g.is in
       let spelled : words_of v (at p) ≡ given = ap (λ (r : Place). words_of v (at r)) (sym here) ∙ same_words (words_of v (at g.p)) given x.output z.1 out in
       at_the (λ r. Enters k v now r given (answers (put q (at p) now) 0 Nothing)) now _ later m q enough there
       (entered (record { narrow = z.0; limited = limited p; spelled = spelled }))

@@ -32,6 +32,7 @@ pub enum Refusal {
     NotPrinted(tile::Fault),
 }
 
+// By hand, each of these: a derived `From` promises nothing of what it makes.
 impl From<recipe::Fault> for RunFault {
     ghost from_gives = { λ f r. r ≡ Unread f };
 
@@ -90,7 +91,7 @@ impl From<tile::Fault> for Refusal {
 
 impl Refusal {
     /// The refusal's number, 1 to 16.
-    // A refusal is more than its number, and no number makes one: a method, and no conversion.
+    // No `From`: `refusal.number()` says which number is meant.
     pub fn number(self) -> u8
         ensures { result ≡ (coded self).number }
     {

@@ -10,7 +10,8 @@ use Rattle.picture.specs.Lent.{lent, arcs_of}
 use Rattle.picture.specs.declared.body.Arc.{Arc}
 use Rattle.picture.specs.declared.stored.Stored.{Stored}
 use Rattle.compose.specs.Faults.{excess, over_limit}
-use Rattle.compose.proofs.Zipped.{zipped_append, zipped_map, lent_count}
+use Rattle.compose.proofs.Zipped.{zipped_append, zipped_map}
+use Rattle.picture.proofs.Storing.{lent_count}
 
 -- which limit the sum of two bodies in memory passes
 pub sum_excess : {W : Type 0} (a b : Stored W) (n m : ℕ) (xs ys : List Arc) → n ≡ (lent a).states → m ≡ (lent b).states

@@ -18,6 +18,7 @@ fn redirect<F: Fn(Quadrant) -> Quadrant>(arcs: &mut [Arc], becomes: F)
 }
 
 /// The body with each arc's digit replaced by what it becomes: all else stays.
+// The length is a clause, and no array type: memory is lent as one slice and cut while the program runs.
 pub(crate) fn displace<W: Weight, F: Fn(Quadrant) -> Quadrant>(
     a: Stored<'_, W>,
     becomes: F,

@@ -6,6 +6,7 @@ ghost use Rattle.picture.specs.BodyOperations.{raised_arc};
 use picture::Arc;
 
 /// One slice after another.
+// That the lengths agree is a fact of two slices, and of no one type.
 pub fn join<T: Copy>(front: &[T], back: &[T], out: &mut [T])
     requires { length out.old ≡ length front.now + length back.now }
     ensures { out.new ≡ front.now ++ back.now }
@@ -16,6 +17,7 @@ pub fn join<T: Copy>(front: &[T], back: &[T], out: &mut [T])
 }
 
 /// Arcs with both ends raised.
+// That the lengths agree is a fact of two slices, and of no one type.
 pub fn raise(arcs: &[Arc], by: u8, out: &mut [Arc])
     requires long { length out.old ≡ length arcs.now }
     requires small { AllByRecursion (λ a. Within 256 (raised_arc by a)) arcs.now }

@@ -23,6 +23,7 @@ fn mirror_quadrant(quadrant: Quadrant) -> Quadrant
 }
 
 /// The body with left and right exchanged.
+// The length is a clause, and no array type: memory is lent as one slice and cut while the program runs.
 pub fn mirror<W: Weight>(a: Stored<'_, W>, out: &mut [W]) -> Record
     requires room { length out.old ≡ 640 }
     ensures body { stored result out.new ≡ mirrored_body (lent a.entry) }

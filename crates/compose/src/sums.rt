@@ -14,6 +14,7 @@ use picture::{ARC_WEIGHTS, LAST_WEIGHTS, Record, Stored};
 use weight::Weight;
 
 /// The sum of two bodies.
+// The length is a clause, and no array type: memory is lent as one slice and cut while the program runs.
 pub fn add<W: Weight>(a: Stored<'_, W>, b: Stored<'_, W>, out: &mut [W]) -> Result<Record, Fault>
     requires room { length out.old ≡ 640 }
     ensures body { Outcome (over_limit (sum_body (lent a.entry) (lent b.entry))) (sum_body (lent a.entry) (lent b.entry)) out.old out.new result }
@@ -31,7 +32,8 @@ pub fn add<W: Weight>(a: Stored<'_, W>, b: Stored<'_, W>, out: &mut [W]) -> Resu
         b.arc_weights(),
         &mut out[ARC_WEIGHTS..ARC_WEIGHTS + m],
     );
-    // `multiply` and `piece` end so too: a function for all would take both counts and a closure for each write.
+    // `multiply` and `piece` end so too: a function for it would take a closure for each write, and promise of the arcs
+    // that they stay.
     let mut record = *a.record;
     let all = &mut record.arcs[..];
     raise(others, a.record.states, &mut all[own.len()..m]);

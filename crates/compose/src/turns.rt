@@ -23,6 +23,7 @@ pub(crate) fn turn_quadrant(quadrant: Quadrant) -> Quadrant
 }
 
 /// The body turned clockwise by a quarter.
+// The length is a clause, and no array type: memory is lent as one slice and cut while the program runs.
 pub fn turn<W: Weight>(a: Stored<'_, W>, out: &mut [W]) -> Record
     requires room { length out.old ≡ 640 }
     ensures body { stored result out.new ≡ turned_body (lent a.entry) }

@@ -11,6 +11,7 @@ use steps::advance;
 use weight::Weight;
 
 /// The body zoomed into a quadrant: its first row takes one step, all else stays.
+// The length is a clause, and no array type: memory is lent as one slice and cut while the program runs.
 pub fn zoom<W: Weight>(a: Stored<'_, W>, quadrant: Quadrant, out: &mut [W]) -> Record
     requires room { length out.old ≡ 640 }
     ensures body { stored result out.new ≡ zoomed_body W.kind quadrant (lent a.entry) }

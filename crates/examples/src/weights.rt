@@ -16,7 +16,7 @@ fn worked_values(rt: HostRuntime) {
     assert_eq!(rt; Grey::new(65_535).plus(Grey::new(2)).number(), 1);
 }
 
-// A kind reads the words of a number and writes them again.
+// Whether a kind reads the word with a payload, and writes it again.
 fn takes<W: Written>(payload: u32) -> bool {
     let word = 0x3000_0000 + payload % 0x0100_0000;
     match W::read(&[word]) {

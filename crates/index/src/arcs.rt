@@ -12,6 +12,7 @@ use picture::Arc;
 #[derive(Drop)]
 pub struct Arcs<'a, W> {
     pub states: usize,
+    // Two slices: arcs lie in the record, and weights in lent memory.
     pub arcs: &'a [Arc],
     pub weights: &'a [W],
     pub into: Index,
@@ -25,6 +26,7 @@ pub struct Arcs<'a, W> {
 
 impl<'a, W> Arcs<'a, W> {
     /// The arcs and their weights with both indexes.
+    // At most 512 arcs is a clause: callers have theirs as a plain slice.
     pub fn new(states: usize, arcs: &'a [Arc], weights: &'a [W]) -> Arcs<'a, W>
         requires states { states ≤ 64 }
         requires few { length arcs.now ≤ 512 }

@@ -7,8 +7,9 @@ use crate::sums::sum_at;
 use picture::Quadrant;
 use weight::Weight;
 
-// Rows and columns share `sum_at`; which index is read and which factor comes first stands in their own functions.
-// A term has its own function and the clause `states` again: with its body in the closure the sum's proof did not close.
+// Two loops, which share `sum_at`: one for both would be handed the index and the term with clauses over every key.
+// A term has its own function: with its body in the closure the sum's proof did not close. How long a row is, is a fact
+// of it and of the arcs, and of no one type.
 impl<W: Weight> Arcs<'_, W> {
     /// A row times the digit's matrix.
     pub fn step_row(&self, row: &[W], quadrant: Quadrant, next: &mut [W])

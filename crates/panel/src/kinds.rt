@@ -24,6 +24,9 @@ enum Kind {
     Pair,
 }
 
+/// The code of a pair, whatever its parts are.
+const PAIR: u32 = 6;
+
 impl From<&[u32]> for Kind {
     /// The kind that the code in the head word names; no code and other codes are tried as grey.
     fn from(words: &[u32]) -> Kind {
@@ -32,7 +35,7 @@ impl From<&[u32]> for Kind {
             Some(Height::CODE) => Kind::Height,
             Some(Ink::CODE) => Kind::Ink,
             Some(Valve::CODE) => Kind::Valve,
-            Some(6) => Kind::Pair,
+            Some(PAIR) => Kind::Pair,
             _ => Kind::Grey,
         }
     }
@@ -40,6 +43,7 @@ impl From<&[u32]> for Kind {
 
 /// Carries out a task on the body in these words; a pair is of ink and height.
 pub(crate) fn carry_out(rt: &HostRuntime, given: &[u32], task: Task) -> anyhow::Result<()> {
+    // Each kind is a type of its own, and no value holds a type: a `match` picks it.
     match Kind::from(given) {
         Kind::Mask => work::<Mask>(rt, given, task),
         Kind::Grey => work::<Grey>(rt, given, task),

@@ -18,10 +18,12 @@ pub(crate) fn explain(rt: &HostRuntime, line: &str) -> anyhow::Result<()> {
 }
 
 /// A line with a caret, and one that says why.
+// Beside the one for words: one points at a byte, and the other names a word.
 fn refuse(rt: &HostRuntime, fault: Fault) -> anyhow::Result<()> {
     let number = fault.number();
     match fault.byte() {
         Some(byte) => {
+            // A space for each byte before it.
             for _ in 0..byte {
                 print!(rt; " ")?;
             }

@@ -54,12 +54,14 @@ pub(crate) fn numbers<W: Shown>(
 
 /// Rows of cells as numbers.
 fn rows<W: Shown>(rt: &HostRuntime, cells: &[W], side: usize) -> anyhow::Result<()> {
-    for (i, cell) in cells.iter().enumerate() {
-        if (i + 1) % side.max(1) == 0 {
-            println!(rt; "{cell}")?;
-        } else {
+    for row in cells.chunks(side.max(1)) {
+        let Some((last, front)) = row.split_last() else {
+            continue;
+        };
+        for cell in front {
             print!(rt; "{cell} ")?;
         }
+        println!(rt; "{last}")?;
     }
     Ok(())
 }

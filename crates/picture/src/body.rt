@@ -30,7 +30,7 @@ pub struct Arc {
 
 /// A body without its weights, which lie in memory that the caller lends.
 // Arcs in an array with their count, and no `Vec`: the library has no heap. What holds of a record stands in `Stored`
-// and in the rack's table: a record is plain.
+// and in `Rack`: a record is plain.
 #[derive(Clone, Copy)]
 pub struct Record {
     pub states: u8,

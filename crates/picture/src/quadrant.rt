@@ -40,7 +40,7 @@ impl TryFrom<u8> for Quadrant {
 
 impl Quadrant {
     /// The quadrant that a number below 4 names, and upper left for any other.
-    // No `try_from` in its place: its callers would unwrap what cannot fail.
+    // The table again, and no `try_from`: its callers would unwrap what cannot fail.
     pub fn named(number: usize) -> Quadrant
         ensures { result ≡ named number }
     {

@@ -13,7 +13,7 @@ pub struct Stored<'a, W> {
     ghost room: { length weights.now ≡ 640 },
 }
 
-// By hand: a derive would ask that weights are `Copy`, and is refused beside a ghost field.
+// By hand: a derive asks for `W: Copy`, and much that holds a body has no bound on `W`.
 impl<W> Clone for Stored<'_, W> {
     fn clone(&self) -> Result<Self, AllocError> {
         Ok(*self)

@@ -49,7 +49,7 @@ pub(crate) fn enter_all<W: Weight>(
     requires wide { length products.old ≡ length (pieced_arcs W.kind s (map filled parts.now)) }
     ensures { zip arcs.new products.new ≡ pieced_arcs W.kind s (map filled parts.now) }
 {
-    // The others take what is left of both slices: a loop would count two positions by hand.
+    // By recursion: a loop would count a position in both slices, and a struct of both would be cut likewise.
     if let [part, rest @ ..] = parts {
         let size = part_size(part.body);
         let (front, back) = arcs.split_at_mut(size);

@@ -17,6 +17,7 @@ use picture::{ARC_WEIGHTS, LAST_WEIGHTS, Quadrant, Record, Stored};
 use weight::Weight;
 
 /// The piecing of four bodies, for the quadrants 0 to 3.
+// The length is a clause, and no array type: memory is lent as one slice and cut while the program runs.
 pub fn piece<W: Weight>(
     a: Stored<'_, W>,
     b: Stored<'_, W>,

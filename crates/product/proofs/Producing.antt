@@ -7,13 +7,13 @@ use Rattle.picture.specs.declared.body.Arc.{Arc}
 use Rattle.picture.specs.declared.stored.Stored.{Stored}
 use Rattle.product.specs.Counts.{matches}
 use Rattle.product.proofs.Counting.{product_length}
-use Rattle.compose.proofs.Zipped.{weights_long}
+use Rattle.picture.proofs.Storing.{stored_weights}
 use Rattle.compose.specs.Faults.{product_excess, product_fault}
 
 module _ {W : Type 0} (k : Kind W) (a b : Stored W) (xs ys : List Arc) (ex : xs ≡ arcs_of a) (cx : length xs ≡ a.record.now.count) (ey : ys ≡ arcs_of b) (cy : length ys ≡ b.record.now.count) where
   pub product_count : length (product_body k (lent a) (lent b)).arcs ≡ matches xs ys
   product_count =
-      product_length k (lent b).states (arcs_of a) (arcs_of b) _ _ (sym (ap length ex) ∙ cx ∙ sym (weights_long a)) (sym (ap length ey) ∙ cy ∙ sym (weights_long b))
+      product_length k (lent b).states (arcs_of a) (arcs_of b) _ _ (sym (ap length ex) ∙ cx ∙ sym (stored_weights a.record.now a.weights.now a.kept a.room)) (sym (ap length ey) ∙ cy ∙ sym (stored_weights b.record.now b.weights.now b.kept b.room))
       ∙ ap₂ matches (sym ex) (sym ey)
 
   -- why the product is refused

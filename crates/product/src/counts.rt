@@ -12,6 +12,7 @@ fn count(arcs: &[Arc], quadrant: Quadrant) -> usize
 }
 
 /// How many pairs of arcs have one digit.
+// At most 512 arcs is a clause: callers have theirs as a plain slice.
 pub(crate) fn count_matches(arcs: &[Arc], others: &[Arc]) -> usize
     requires left { length arcs.now ≤ 512 }
     requires right { length others.now ≤ 512 }

@@ -15,6 +15,7 @@ use picture::{ARC_WEIGHTS, LAST_WEIGHTS, Record, Stored};
 use weight::Weight;
 
 /// The product of two bodies, on a kind that exchanges.
+// The length is a clause, and no array type: memory is lent as one slice and cut while the program runs.
 pub fn multiply<W: Weight>(
     a: Stored<'_, W>,
     b: Stored<'_, W>,

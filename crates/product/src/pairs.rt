@@ -22,7 +22,7 @@ pub(crate) fn pair_weights<W: Weight>(xs: &[W], ys: &[W], out: &mut [W])
 /// Arcs and their weights, written in place, and how many there are.
 #[derive(Drop)]
 struct Pairs<'a, W> {
-    // Lent slices and a count, and no `Vec`: the library has no heap.
+    // Two lent slices and a count, and no `Vec`: no heap, and arcs lie in the record, weights in lent memory.
     arcs: &'a mut [Arc],
     weights: &'a mut [W],
     count: usize,
@@ -66,6 +66,7 @@ impl<W: Weight> Pairs<'_, W> {
 }
 
 /// The arcs of each arc of `a` with each of `b`.
+// That the lengths agree is a fact of two slices, and of no one type.
 pub(crate) fn pair_arcs<W: Weight>(
     a: Stored<'_, W>,
     b: Stored<'_, W>,

@@ -93,6 +93,7 @@ impl<W: Written> Rack<W> {
     }
 
     /// Prints the cells of a tile of a place, with weights to work in.
+    // The lengths are clauses, and no array types: memory is lent as one slice and cut while the program runs.
     fn print_tile(
         &self,
         place: Place,

@@ -20,7 +20,7 @@ pub enum Fault {
 
 impl Fault {
     /// The refusal's number.
-    // A refusal is more than its number, and no number makes one: a method, and no conversion.
+    // No `From`: `fault.number()` says which number is meant.
     pub fn number(self) -> u8
         ensures { result ≡ (coded self).0 }
     {

@@ -36,6 +36,7 @@ impl Reader<'_> {
     }
 
     /// The place that the next byte names, if it names one.
+    // Beside `peek_quadrant`: what each names has its own type, first byte and clause.
     fn peek_place(&self) -> Option<Place>
         ensures { result ≡ name_at (left self.now) }
     {

@@ -9,7 +9,8 @@ use crate::stack::Stack;
 use picture::{BAY, Quadrant, Stored};
 use weight::Weight;
 
-// Each operation has its own promise, and so its own method; what they share is `waiting`, `put` and `settle`.
+// A method for each: one that was handed the operation would say of it what these say now. How many bodies wait is a
+// fact of the moment, and so a clause.
 impl<W: Weight> Stack<'_, W> {
     /// Turns the latest body clockwise by a quarter.
     pub fn turn(&mut self)

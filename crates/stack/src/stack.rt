@@ -22,6 +22,7 @@ pub struct Stack<'m, W> {
     ghost room: { length work.now ≡ 3840 },
 }
 
+// The length is a clause, and no array type: memory is lent as one slice and cut while the program runs.
 // `same_reference` says that a stack keeps the bays that it was lent: a clause of each method, since a type cannot
 // speak of what its value was before.
 impl<'m, W: Weight> Stack<'m, W> {

@@ -15,6 +15,11 @@ use Rattle.picture.proofs.States.{total_below}
 abbrev pub pairs_rest : {A B : Type 0} → Zip (Iter A) (Iter B) → List (A × B)
 pairs_rest z = zip (iter_rest z.a) (iter_rest z.b)
 
+-- all pairs are left where a walk begins
+pub all_pairs : {A B : Type 0} (s t : Zip (Iter A) (Iter B)) (a : Iter A) (xs : List A) (ys : List B) → s ≡ t → t.a ≡ a → iter_rest a ≡ xs → iter_rest t.b ≡ ys
+    → pairs_rest s ≡ zip xs ys
+all_pairs s t a xs ys is first front back = ap pairs_rest is ∙ ap₂ zip (ap iter_rest first ∙ front) back
+
 zip_none : {A B : Type 0} (xs : List A) → zip {X = B} xs [] ≡ []
 zip_none [] = refl
 zip_none (x ∷ xs) = refl

@@ -6,6 +6,8 @@ ghost use Rattle.weight.specs.Sums.{total};
 use picture::{Arc, Quadrant};
 use weight::Weight;
 
+// Slices of arcs and of weights, and no `Stored`: who takes a row through arcs need not have a record.
+
 /// One entry of a row times the digit's matrix: the sum, over the arcs that reach state `q` with the digit, of the
 /// row's weight at the arc's start times the arc's.
 fn gather<W: Weight>(arcs: &[Arc], weights: &[W], row: &[W], quadrant: Quadrant, q: usize) -> W
@@ -38,6 +40,7 @@ pub fn advance<W: Weight>(
 }
 
 /// A row times a column.
+// That they are equally long is a fact of two slices, and of no one type.
 pub fn meet<W: Weight>(row: &[W], column: &[W]) -> W
     requires { length row.now ≡ length column.now }
     ensures { result ≡ total W.kind (range_with_len 0 (length row.now)) (λ q. W.kind.times (at_state W.kind row.now q) (at_state W.kind column.now q)) }

@@ -23,7 +23,7 @@ pub const PLACE_WEIGHTS: usize = PLACES * BAY;
 /// How many weights the working bays have.
 const WORK_WEIGHTS: usize = MAX_WAITING * BAY;
 
-// The bays and the stack stay parameters: a struct that lends them with the table would promise of each that it stays.
+// The bays and the stack are parameters: a struct that lends them with the table would promise of each that it stays.
 impl Table {
     /// The body of a place.
     pub fn body<'a, W: Weight>(&'a self, place: Place, bays: &'a [W]) -> Stored<'a, W>
@@ -67,6 +67,7 @@ impl Table {
         ensures height { OnOk result (stack.new.height ≡ left_waiting step stack.old.height) }
         ensures kept { AllKept self.new }
     {
+        // Steps are data, read from a script: an enum, and no closures.
         match step {
             Step::Name(place) => stack.push(self.body(place, bays)),
             Step::Turn => stack.turn(),
@@ -96,7 +97,7 @@ impl Table {
         let mut stack = Stack::new(&mut rest[0..WORK_WEIGHTS]);
         let mut lines = 0;
         for step in steps {
-            // No `map_err` and `?`: the closure's contract would be longer than these lines.
+            // No `map_err` and `?`: in this loop the proof did not close.
             if let Err(step) = self.step(*step, bays, &mut stack) {
                 return Err(LineFault { line: lines, step });
             }

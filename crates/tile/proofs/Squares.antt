@@ -34,11 +34,8 @@ part_room i m n high wide len e f l h = omega (arith, part_fits i high wide h, a
 pub parts_more : {W : Type 0} (f : ℕ → List W) (i : ℕ) → flat_map f (range_with_len 0 (i + 1)) ≡ flat_map f (range_with_len 0 i) ++ f i
 parts_more f i = ap (flat_map f) (counting_more i) ∙ sym (flat_map_more f [] (range_with_len 0 i) i)
 
-length_put_mid : {X : Type 0} (a m : ℕ) (xs ys : List X) → a + m ≤ length xs → length ys ≡ m → length (put_mid a m xs ys) ≡ length xs
-length_put_mid a m xs ys h l = search (rules, places)
-
 pub part_long : {X : Type 0} (i n : ℕ) (out part : List X) → i * n + n ≤ length out → length part ≡ n → length (put_mid (i * n) (i * n + n - i * n) out part) ≡ length out
-part_long i n out part h l = length_put_mid (i * n) _ out part (omega arith) (omega arith)
+part_long i n out part h l = let long : length part ≡ i * n + n - i * n = omega arith in search (rules, places)
 
 -- one part more is written
 pub part_written : {W : Type 0} (f : ℕ → List W) (i n : ℕ) (out part : List W) → i * n + n ≤ length out → length part ≡ n → take (i * n) out ≡ flat_map f (range_with_len 0 i) → part ≡ f i

@@ -12,6 +12,7 @@ use crate::slots::slot;
 use picture::Quadrant;
 use weight::Weight;
 
+// How long a column is, is a fact of it and of the automaton, and of no one type.
 impl<W: Weight> Automaton<'_, W> {
     /// Writes what the columns of so many digits become under each digit in front.
     fn lift(&self, columns: &[W], digits: u8, longer: &mut [W])

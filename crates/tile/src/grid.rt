@@ -29,6 +29,7 @@ pub(crate) struct Grid<'s, 'a, W: Weight> {
     ghost all_columns: { columns.now ≡ columns_along W.kind (edges body.arcs) body.arcs.states body.last.now fine },
 }
 
+// The length is a clause, and no array type: memory is lent as one slice and cut while the program runs.
 impl<'s, 'a, W: Weight> Grid<'s, 'a, W> {
     /// The grid of a square of cells of a body; `room` is for two rows, for its columns, and for four more.
     pub(crate) fn new(body: Stored<'a, W>, square: Square, room: &'s mut [W]) -> Grid<'s, 'a, W>

@@ -61,7 +61,7 @@ pub enum Fault {
 
 impl Fault {
     /// The refusal's number.
-    // A refusal is more than its number, and no number makes one: a method, and no conversion.
+    // No `From`: `fault.number()` says which number is meant.
     pub fn number(self) -> u8
         ensures { result ≡ number self }
     {
@@ -87,6 +87,7 @@ impl fmt::Display for Fault {
 impl Error for Fault {}
 
 /// Writes the cells of a tile, and answers how many they are.
+// The length is a clause, and no array type: memory is lent as one slice and cut while the program runs.
 pub fn print<W: Weight>(
     body: Stored<'_, W>,
     tile: Tile,
@@ -107,6 +108,7 @@ pub fn print<W: Weight>(
 }
 
 /// Writes row `y` of the cells of a tile, and answers how many they are.
+// Beside `print`: they share `square` and `Grid::new`, and differ in what they refuse and write.
 pub fn print_row<W: Weight>(
     body: Stored<'_, W>,
     tile: Tile,

@@ -14,6 +14,8 @@ use crate::square::Square;
 use picture::{MAX_STATES, Quadrant};
 use weight::Weight;
 
+// How long a row is, is a fact of it and of the automaton, and of no one type; the length of the room is a clause, since
+// memory is lent as one slice.
 impl<W: Weight> Automaton<'_, W> {
     /// Takes a row along the digits of a prefix; `next` is room for one row.
     fn follow(&self, square: Square, row: &mut [W], next: &mut [W])
@@ -21,7 +23,7 @@ impl<W: Weight> Automaton<'_, W> {
         requires next { length next.old ≡ self.now.arcs.states }
         ensures { (w : Address) → value W.kind (body self.now) (at_state W.kind row.new) w ≡ value W.kind (body self.now) (at_state W.kind row.old) (base_four square.digits square.prefix ++ w) }
     {
-        // The digits of a number from the coarsest on: how many are left counts down.
+        // Counted down: a number has no iterator over its digits.
         for left in (0..square.digits).rev() {
             let digit = Quadrant::named(square.prefix / power(left) % 4);
             self.arcs.step_row(row, digit, next);

@@ -6,7 +6,7 @@ use crate::kind::Weight;
 use crate::word;
 use crate::written::Written;
 
-// Each kind prints itself, since Rust allows no impl of std's `Display` for every kind of one word.
+// Each kind says by itself which numbers are payloads, and prints itself, since Rust allows no impl of std's `Display` for every kind of one word.
 
 /// A kind of weight whose values have one word each, told apart by the word's payload.
 pub trait OneWord: Weight {

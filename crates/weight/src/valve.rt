@@ -26,6 +26,7 @@ pub struct Valve {
 
 impl Valve {
     /// The valve with the lowest four bits of a number.
+    // No `From<u32>`: a number is cut to fit.
     pub fn new(number: u32) -> Valve
         ensures { result ≡ valve number }
     {

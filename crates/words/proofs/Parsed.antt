@@ -18,7 +18,8 @@ use Rattle.words.specs.declared.fault.PieceFault.{PieceFault}
 use Rattle.words.specs.declared.head.Counts.{Counts}
 use Rattle.words.specs.declared.reader.Reader.{Reader}
 use Rattle.words.proofs.Sizes.{size_body, length_states}
-use Rattle.words.proofs.Storing.{stored_arcs, stored_limited}
+use Rattle.picture.proofs.Storing.{stored_arcs}
+use Rattle.words.proofs.Storing.{stored_limited}
 
 module _ {W : Type 0} (s : Writing W) (narrow : s.width < 9) (given : List ℕ) (x : ℕ) (rest : List ℕ) (parts : given ≡ x ∷ rest) where
   pub refused_head : (f : Fault) → (f ≡ Head) × ((n m : ℕ) → n ≤ 64 → m ≤ 512 → x ≡ head_word s n m → ⊥) → Refused s given f

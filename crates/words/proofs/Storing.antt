@@ -1,9 +1,8 @@
 -- A record and its weights once states and arcs are stored.
-use Rattle.std.proofs.Common.{◌≡◌, suc, ◌+◌, ◌-◌, min, List, ◌++◌, length, take, sym, refl, ap, ◌∙◌, subst, ap₂, arith}
+use Rattle.std.proofs.Common.{◌≡◌, suc, ◌+◌, ◌-◌, List, ◌++◌, length, take, sym, refl, ap, ◌∙◌, subst, ap₂, arith}
 use borrow.Rule.Slice.PartMut.{put_mid}
 use Rattle.std.specs.List.{zip, between, flat_map, AllByRecursion}
 use Rattle.std.proofs.lemmas.List.{append_assoc, length-append, take_at, drop_at}
-use Rattle.std.proofs.lemmas.List.Edits.{length-between}
 use Rattle.std.proofs.lemmas.Slice.Zip.{length-zip}
 use Rattle.std.proofs.lemmas.Slice.{between-put_mid}
 use Rattle.weight.specs.Words.{Writing}
@@ -15,7 +14,7 @@ use Rattle.picture.specs.Stored.{stored, Kept}
 use Rattle.picture.specs.declared.body.Arc.{Arc}
 use Rattle.picture.specs.declared.body.Record.{Record}
 use Rattle.picture.specs.declared.stored.Stored.{Stored}
-use Rattle.picture.proofs.Storing.{stored_sound, between_below}
+use Rattle.picture.proofs.Storing.{stored_sound, stored_weights, lent_count, between_below}
 use Rattle.words.specs.Format.{state_words, edge_words, words_of, size, Limited}
 use Rattle.words.specs.Inner.{Took, ReadBody}
 use Rattle.words.specs.declared.head.Counts.{Counts}
@@ -24,29 +23,24 @@ use Rattle.words.proofs.Sizes.{size_body, length_states}
 use Rattle.words.proofs.Taking.{took_both, took_as}
 
 -- a kept record and 640 weights are a body within the limits
-module _ {W : Type 0} (r : Record) (mem : List W) (k : Kept r) (room : length mem ≡ 640) where
-  abbrev pairs : length (stored r mem).arcs ≡ min (length (between 0 r.count r.arcs)) (length (between 128 (128 + r.count) mem))
-  pairs = length-zip (between 0 r.count r.arcs) (between 128 (128 + r.count) mem)
-
-  abbrev weights : length (between 128 (128 + r.count) mem) ≡ r.count
-  weights = length-between mem 128 (128 + r.count) (omega (arith, k.few_arcs)) ∙ omega arith
-
-  pub stored_limited : Limited (stored r mem)
-  stored_limited = record { few_states = k.few_states; few_arcs = omega (arith, pairs, weights, k.few_arcs); sound = stored_sound r mem k room }
-
-  pub stored_arcs : length (between 0 r.count r.arcs) ≡ r.count → length (stored r mem).arcs ≡ r.count
-  stored_arcs e = omega (arith, pairs, weights)
+pub stored_limited : {W : Type 0} (r : Record) (mem : List W) → Kept r → length mem ≡ 640 → Limited (stored r mem)
+stored_limited r mem k room =
+    let weights = stored_weights r mem k room in
+    record {
+      few_states = k.few_states;
+      few_arcs = omega (arith, length-zip (between 0 r.count r.arcs) (between 128 (128 + r.count) mem), weights, k.few_arcs);
+      sound = stored_sound r mem k room;
+    }
 
 pub lent_limited : {W : Type 0} (b : Stored W) → Limited (lent b)
 lent_limited b = stored_limited b.record.now b.weights.now b.kept b.room
 
--- a body whose arcs are counted
-module _ {W : Type 0} (b : Stored W) (bs : List Arc) (same : bs ≡ arcs_of b) (count : length bs ≡ b.record.now.count) where
-  pub lent_arcs : length (lent b).arcs ≡ b.record.now.count
-  lent_arcs = stored_arcs b.record.now b.weights.now b.kept b.room (ap length (sym same) ∙ count)
-
-  pub lent_size : (s : Writing W) → ((v : W) → length (s.words v) ≡ s.width) → length (words_of s (lent b)) ≡ 1 + size s b.record.now.states b.record.now.count
-  lent_size s width = ap suc (size_body s width (zip (lent b).first (lent b).last) (lent b).arcs b.record.now.states b.record.now.count (length_states (lent b) (lent_limited b)) lent_arcs) ∙ omega arith
+-- how many words a body has whose arcs are counted
+pub lent_size : {W : Type 0} (b : Stored W) (bs : List Arc) → bs ≡ arcs_of b → length bs ≡ b.record.now.count → (s : Writing W) → ((v : W) → length (s.words v) ≡ s.width)
+    → length (words_of s (lent b)) ≡ 1 + size s b.record.now.states b.record.now.count
+lent_size b bs is count s width =
+    let arcs = lent_count b bs is count ∙ count in
+    ap suc (size_body s width (zip (lent b).first (lent b).last) (lent b).arcs b.record.now.states b.record.now.count (length_states (lent b) (lent_limited b)) arcs) ∙ omega arith
 
 -- first weights and last weights in two parts, then arcs and their weights
 module _ {W : Type 0} {w : Written W} {base : Weight W} (s : Writing W) (counts : Counts) where

@@ -55,6 +55,7 @@ pub enum TripFault {
     Write(WriteFault),
 }
 
+// By hand, each of these: a derived `From` promises nothing of what it makes.
 impl From<WordFault> for ArcFault {
     ghost from_gives = { λ f r. r ≡ record { word = f } };
 
@@ -105,7 +106,7 @@ impl From<WriteFault> for TripFault {
 
 impl Fault {
     /// The number of the fault.
-    // A refusal is more than its number, and no number makes one: a method, and no conversion.
+    // No `From`: `fault.number()` says which number is meant.
     pub fn number(self) -> u8
         ensures { result ≡ (number_and_index self).0 }
     {
@@ -132,7 +133,7 @@ impl Fault {
 
 impl WriteFault {
     /// The number of the fault.
-    // A refusal is more than its number, and no number makes one: a method, and no conversion.
+    // No `From`: `fault.number()` says which number is meant.
     pub fn number(self) -> u8
         ensures { result ≡ write_number self }
     {
@@ -143,7 +144,7 @@ impl WriteFault {
     }
 }
 
-// By hand: what a derive of `thiserror` writes promises nothing of the text.
+// By hand, both of these: what a derive of `thiserror` writes promises nothing of the text.
 impl fmt::Display for Fault {
     ghost output = { λ f. Some (text f) };
 

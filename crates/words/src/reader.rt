@@ -68,6 +68,7 @@ impl<W: Written> Reader<'_, W> {
     }
 
     /// The first and last weights of states.
+    // `both` is a fact of two slices, and of no one type.
     fn states(&mut self, firsts: &mut [W], lasts: &mut [W]) -> Result<(), WeightFault>
         requires both { length lasts.old ≡ length firsts.old }
         ensures { MatchResult result (λ _. Took (flat_map (state_words W.writing) (zip firsts.new lasts.new)) self.old self.new × Passed {W = W} W.writing (length firsts.old) (state_pieces (length firsts.old)) self.old self.new) (λ f. FirstWrong {W = W} W.writing (length firsts.old) (state_pieces (length firsts.old)) self.old.rest.now self.old.position (WrongWeight f)) }
@@ -94,6 +95,7 @@ impl<W: Written> Reader<'_, W> {
     }
 
     /// What stands behind a head.
+    // The length is a clause, and no array type: memory is lent as one slice and cut while the program runs.
     pub(crate) fn body(&mut self, counts: Counts, weights: &mut [W]) -> Result<Record, PieceFault>
         requires room { length weights.old ≡ 640 }
         ensures { MatchResult result (ReadBody W.writing counts weights.new self.old self.new) (FirstWrong {W = W} W.writing counts.states (state_pieces counts.states ++ arc_pieces counts.arcs) self.old.rest.now self.old.position) }

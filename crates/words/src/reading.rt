@@ -12,6 +12,7 @@ use std::marker::PhantomData;
 use weight::{TOO_WIDE, Written};
 
 /// Reads a body from its words into the record that is returned and 640 weights, which a refusal may change.
+// The length is a clause, and no array type: memory is lent as one slice and cut while the program runs.
 fn parse<W: Written>(given: &[u32], weights: &mut [W]) -> Result<Record, Fault>
     requires { length weights.old ≡ 640 }
     ensures { MatchResult result (λ place. Kept place × SpellsBody W.writing (stored place weights.new) given.now) (Refused {W = W} W.writing given.now) }

@@ -11,6 +11,7 @@ use picture::{Record, Stored};
 use weight::Written;
 
 /// Reads words into 640 weights, and writes the body again: the words are the same.
+// The length is a clause, and no array type: memory is lent as one slice and cut while the program runs.
 pub fn rewrite<W: Written>(
     given: &[u32],
     weights: &mut [W],

@@ -41,6 +41,7 @@ impl<W: Written> Writer<'_, W> {
     }
 
     /// Writes the words of states, by their first and last weights.
+    // `both` is a fact of two slices, and of no one type.
     pub(crate) fn states(&mut self, firsts: &[W], lasts: &[W])
         requires both { length lasts.now ≡ length firsts.now }
         requires room { self.old.position + length firsts.now * (2 * W.writing.width) ≤ length self.old.out.now }

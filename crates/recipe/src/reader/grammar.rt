@@ -12,6 +12,7 @@ use crate::step::Step;
 use picture::Quadrant;
 
 /// The byte that opens a part that is not a plain place.
+// An enum, since what is read is data.
 #[derive(Clone, Copy)]
 enum Opening {
     At,
@@ -137,6 +138,7 @@ impl Reader<'_> {
         ensures { Reads product depth.around self.old self.new result }
     {
         self.part(depth)?;
+        // As long as the sign stands there.
         while self.take(b'*') {
             let mark = self.pos - 1;
             self.part(depth)?;
@@ -151,6 +153,7 @@ impl Reader<'_> {
         ensures { Reads sum depth.around self.old self.new result }
     {
         self.product(depth)?;
+        // As long as the sign stands there.
         while self.take(b'+') {
             let mark = self.pos - 1;
             self.product(depth)?;
@@ -187,6 +190,7 @@ impl Reader<'_> {
     pub(super) fn script(&mut self) -> Result<(), Fault>
         ensures { Whole self.old self.new result }
     {
+        // As long as a byte is left.
         while self.peek().is_some() {
             self.line()?;
         }

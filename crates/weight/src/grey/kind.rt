@@ -17,6 +17,7 @@ const COUNT: u32 = 65_536;
 
 impl Grey {
     /// The grey that a number comes to.
+    // No `From<u32>`: a number is cut to fit.
     pub fn new(number: u32) -> Grey
         ensures { result ≡ grey number }
     {

@@ -17,6 +17,7 @@ const NONE: u32 = 16_777_215;
 
 impl Height {
     /// The height that a number comes to.
+    // No `From<u32>`: a number is cut to fit.
     pub fn new(number: u32) -> Height
         ensures { result ≡ height number }
     {

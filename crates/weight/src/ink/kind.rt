@@ -16,6 +16,7 @@ const MOST: u32 = 255;
 
 impl Ink {
     /// The ink that a number comes to.
+    // No `From<u32>`: a number is cut to fit.
     pub fn new(number: u32) -> Ink
         ensures { result ≡ ink number }
     {

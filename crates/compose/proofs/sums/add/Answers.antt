@@ -6,12 +6,11 @@ use Rattle.picture.specs.Bodies.{Within}
 use Rattle.picture.specs.BodyOperations.{sum_body, raised_arc}
 use Rattle.picture.specs.Lent.{lent}
 use Rattle.picture.specs.Pictures.{picture}
-use Rattle.picture.proofs.Storing.{lent_sound}
+use Rattle.picture.proofs.Storing.{lent_sound, lent_arcs}
 use Rattle.picture.proofs.SumPictures.{sum_sound, sum_shows}
 use Rattle.compose.proofs.Adding.{sum_excess, sum_arcs, arcs_after}
 use Rattle.compose.proofs.Bounds.{within_limits}
 use Rattle.compose.proofs.Written.{body_made, lasts_long}
-use Rattle.compose.proofs.Zipped.{lent_arcs}
 use Rattle.compose.proofs.sums.add.Goals as goal
 
 pub returns-in_err-check_limits-clause-body : goal.returns-in_err-check_limits-clause-body

@@ -10,10 +10,9 @@ use Rattle.picture.specs.Pictures.{picture}
 use Rattle.picture.specs.Steps.{stepped}
 use Rattle.picture.specs.Stored.{stored}
 use Rattle.picture.proofs.Embeddings.{Ends}
-use Rattle.picture.proofs.Storing.{lent_sound}
+use Rattle.picture.proofs.Storing.{lent_sound, lent_arcs}
 use Rattle.picture.proofs.ZoomPictures.{zoom_shows}
 use Rattle.compose.proofs.Written.{firsts_made}
-use Rattle.compose.proofs.Zipped.{lent_arcs}
 use Rattle.compose.proofs.zooms.zoom.Goals as goal
 
 pub advance-requires : goal.advance-requires

@@ -3,8 +3,7 @@ use Rattle.std.specs.List.{range_with_len}
 use Rattle.std.proofs.ByRecursion.{All-weaker}
 use Rattle.picture.specs.Bodies.{Within}
 use Rattle.picture.specs.Lent.{lent}
-use Rattle.picture.proofs.Storing.{lent_sound}
-use Rattle.compose.proofs.Zipped.{lent_count, lent_arcs}
+use Rattle.picture.proofs.Storing.{lent_sound, lent_count, lent_arcs}
 use Rattle.piece.specs.Parts.{entry_arc}
 use Rattle.piece.proofs.PartArcs.{part_arcs_are}
 use Rattle.piece.proofs.entries.enter.Goals as goal

@@ -1,5 +1,5 @@
 use Rattle.std.proofs.Common.{◌+◌, sym, ap₂}
-use Rattle.compose.proofs.Zipped.{lent_count}
+use Rattle.picture.proofs.Storing.{lent_count}
 use Rattle.piece.proofs.parts.part_size.Goals as goal
 
 pub returns-clause-size : goal.returns-clause-size

@@ -1,13 +1,11 @@
 use Rattle.std.proofs.Common.{◌≡◌, length, sym, ap, ◌∙◌, ap₂, arith, rules}
 use Rattle.std.specs.List.{zip}
-use Rattle.std.specs.Slice.Iter.{iter_rest}
 use Rattle.std.proofs.lemmas.List.{take_all}
-use Rattle.steps.proofs.Pairs.{pairs_rest, no_pairs, one_pair}
+use Rattle.steps.proofs.Pairs.{pairs_rest, all_pairs, no_pairs, one_pair}
 use Rattle.picture.specs.declared.body.Arc.{Arc}
 use Rattle.picture.specs.BodyOperations.{arc_pairs}
 use Rattle.picture.specs.Lent.{lent}
-use Rattle.picture.proofs.Storing.{lent_sound}
-use Rattle.compose.proofs.Zipped.{lent_arcs}
+use Rattle.picture.proofs.Storing.{lent_sound, lent_arcs}
 use Rattle.product.proofs.Appending.{due_first, due_next, due_room, due_last}
 use Rattle.product.proofs.Pairing.{small_ends}
 use Rattle.product.proofs.pairs.pair_arcs.Goals as goal
@@ -16,8 +14,7 @@ pub loop-arc-init : goal.loop-arc-init
 loop-arc-init g c =
     let small = small_ends _ _ _ _ (lent_sound c.args.a).ends (lent_sound c.args.b).ends c.requires.states in
     let started : pairs_rest c.into_iter-arc-iterator.result ≡ (lent c.args.a).arcs =
-    ap pairs_rest c.into_iter-arc-iterator.ensures.into_iter_gives
-    ∙ ap₂ zip (ap iter_rest c.zip-arc-items.ensures.first ∙ c.iter.ensures.rest) c.zip-arc-items.ensures.second.0
+    all_pairs _ _ _ _ _ c.into_iter-arc-iterator.ensures.into_iter_gives c.zip-arc-items.ensures.first c.iter.ensures.rest c.zip-arc-items.ensures.second.0
     ∙ lent_arcs c.args.a c.arcs.result.now c.arc_weights.result.now c.arcs.ensures.arcs c.arc_weights.ensures.arcs in
     (search rules, search rules, rw started small, due_first (ap (λ xs. arc_pairs g.W.Weight.kind (lent c.args.b).states xs (lent c.args.b).arcs) started))
 

@@ -1,7 +1,6 @@
-use Rattle.std.proofs.Common.{ℕ, ◌<◌, List, ◌∷◌, true, eqb, subst, length, get_or, ◌≡◌, sym, cond, ap, ◌∙◌, ap₂, rules}
+use Rattle.std.proofs.Common.{ℕ, ◌<◌, List, ◌∷◌, true, eqb, subst, length, get_or, ◌≡◌, sym, cond, ap, ◌∙◌, rules}
 use Rattle.std.specs.List.{zip, AllByRecursion}
-use Rattle.std.specs.Slice.Iter.{iter_rest}
-use Rattle.steps.proofs.Pairs.{pairs_rest, no_pairs, one_pair}
+use Rattle.steps.proofs.Pairs.{pairs_rest, all_pairs, no_pairs, one_pair}
 use Rattle.weight.proofs.Totals.{zero_plus, total_start, total_more, total_end}
 use Rattle.weight.specs.Kinds.{Kind}
 use Rattle.picture.specs.declared.body.Arc.{Arc}
@@ -14,8 +13,7 @@ use Rattle.steps.proofs.rows.gather.Goals as goal
 
 started : (g : _) (c : goal.After-into_iter-arc-iterator g) → pairs_rest c.into_iter-arc-iterator.result ≡ zip c.args.arcs.now c.args.weights.now
 started g c =
-    ap pairs_rest c.into_iter-arc-iterator.ensures.into_iter_gives
-    ∙ ap₂ zip (ap iter_rest c.zip-arc-items.ensures.first ∙ c.iter.ensures.rest) c.zip-arc-items.ensures.second.0
+    all_pairs _ _ _ _ _ c.into_iter-arc-iterator.ensures.into_iter_gives c.zip-arc-items.ensures.first c.iter.ensures.rest c.zip-arc-items.ensures.second.0
 
 pub loop-arc-init : goal.loop-arc-init
 loop-arc-init g c =

@@ -1,14 +1,12 @@
-use Rattle.std.proofs.Common.{◌≡◌, ap, ap₂, ◌∙◌, rules}
+use Rattle.std.proofs.Common.{◌≡◌, ap, ◌∙◌, rules}
 use Rattle.std.specs.List.{zip}
-use Rattle.std.specs.Slice.Iter.{iter_rest}
-use Rattle.steps.proofs.Pairs.{pairs_rest, no_pairs, one_pair, total_pairs}
+use Rattle.steps.proofs.Pairs.{pairs_rest, all_pairs, no_pairs, one_pair, total_pairs}
 use Rattle.weight.proofs.Totals.{total_start, total_more, total_end}
 use Rattle.steps.proofs.rows.meet.Goals as goal
 
 started : (g : _) (c : goal.After-into_iter-weight-iterator g) → pairs_rest c.into_iter-weight-iterator.result ≡ zip c.args.row.now c.args.column.now
 started g c =
-    ap pairs_rest c.into_iter-weight-iterator.ensures.into_iter_gives
-    ∙ ap₂ zip (ap iter_rest c.zip-weight-items.ensures.first ∙ c.iter.ensures.rest) c.zip-weight-items.ensures.second.0
+    all_pairs _ _ _ _ _ c.into_iter-weight-iterator.ensures.into_iter_gives c.zip-weight-items.ensures.first c.iter.ensures.rest c.zip-weight-items.ensures.second.0
 
 pub loop-weight-init : goal.loop-weight-init
 loop-weight-init g c = (search rules, search rules, total_start g.met.W.Weight.laws _ _ _ _ c.zero-sum.ensures (started g c))

@@ -1,20 +1,18 @@
-use Rattle.std.proofs.Common.{◌≡◌, sym, refl, ap, ◌∙◌, ap₂, arith, rules, [], ◌∷◌, ◌++◌}
-use Rattle.std.specs.List.{zip, flat_map}
-use Rattle.std.specs.Slice.Iter.{iter_rest}
-use Rattle.steps.proofs.Pairs.{pairs_rest, no_pairs, one_pair}
+use Rattle.std.proofs.Common.{◌≡◌, sym, refl, ap, ◌∙◌, arith, rules, [], ◌∷◌, ◌++◌}
+use Rattle.std.specs.List.{flat_map}
+use Rattle.steps.proofs.Pairs.{pairs_rest, all_pairs, no_pairs, one_pair}
 use Rattle.picture.specs.declared.body.Arc.{Arc}
 use Rattle.picture.specs.BodyOperations.{arc_pair}
 use Rattle.picture.specs.Lent.{lent}
 use Rattle.product.specs.Ends.{pair_ends}
-use Rattle.compose.proofs.Zipped.{lent_arcs}
+use Rattle.picture.proofs.Storing.{lent_arcs}
 use Rattle.product.proofs.Appending.{due_first, due_next, due_room, due_last}
 use Rattle.product.proofs.Pairing.{pair_is}
 use Rattle.product.proofs.pairs.Pairs.pair.Goals as goal
 
 started : (g : _) (c : goal.After-into_iter-other-iterator g) → pairs_rest c.into_iter-other-iterator.result ≡ (lent c.args.b).arcs
 started g c =
-    ap pairs_rest c.into_iter-other-iterator.ensures.into_iter_gives
-    ∙ ap₂ zip (ap iter_rest c.zip-other-items.ensures.first ∙ c.iter.ensures.rest) c.zip-other-items.ensures.second.0
+    all_pairs _ _ _ _ _ c.into_iter-other-iterator.ensures.into_iter_gives c.zip-other-items.ensures.first c.iter.ensures.rest c.zip-other-items.ensures.second.0
     ∙ lent_arcs c.args.b c.arcs.result.now c.arc_weights.result.now c.arcs.ensures.arcs c.arc_weights.ensures.arcs
 
 pub loop-other-init : goal.loop-other-init
