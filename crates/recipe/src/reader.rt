@@ -9,8 +9,8 @@ use crate::place::Place;
 use crate::step::{Recipe, Step};
 use picture::Quadrant;
 
-mod depth;
 mod grammar;
+mod nesting;
 
 /// A script, the index of its next byte, how many pictures wait there, and the steps so far.
 #[derive(Drop)]

@@ -4,7 +4,7 @@ ghost use Rattle.recipe.specs.Trees.{sum, product, part, closed, line};
 ghost use Rattle.recipe.specs.Devices.Reading.{left, name_at, OpeningAt, Reads, Opened, Starts, Digits, Whole};
 
 use super::Reader;
-use super::depth::Depth;
+use super::nesting::Nesting;
 use crate::fault::Fault;
 use crate::limits::{MAX_LEVEL, MAX_WAITING};
 use crate::place::Place;
@@ -45,15 +45,15 @@ impl Reader<'_> {
         }
     }
 
-    /// The byte that opens a part, inside as many others as `depth` says.
-    fn opening(&mut self, depth: Depth) -> Result<Opening, Fault>
+    /// The byte that opens a part, inside as many others as `nesting` says.
+    fn opening(&mut self, nesting: Nesting) -> Result<Opening, Fault>
         requires { name_at (left self.old) ≡ None }
-        ensures { Opened depth.around self.old self.new result }
+        ensures { Opened nesting.around self.old self.new result }
     {
         let Some(opening) = self.peek_opening() else {
             return Err(Fault::Grammar(self.pos));
         };
-        if depth.around >= MAX_LEVEL {
+        if nesting.around >= MAX_LEVEL {
             return Err(Fault::Level(self.pos));
         }
         self.pos += 1;
@@ -72,11 +72,11 @@ impl Reader<'_> {
     }
 
     /// The start of a part that is not a plain place.
-    fn start(&mut self, depth: Depth) -> Result<Start, Fault>
+    fn start(&mut self, nesting: Nesting) -> Result<Start, Fault>
         requires { name_at (left self.old) ≡ None }
-        ensures { Starts depth.around self.old self.new result }
+        ensures { Starts nesting.around self.old self.new result }
     {
-        match self.opening(depth)? {
+        match self.opening(nesting)? {
             Opening::At => Ok(Start::Ahead(Step::Turn)),
             Opening::Bar => Ok(Start::Ahead(Step::Mirror)),
             Opening::Caret => {
@@ -103,15 +103,15 @@ impl Reader<'_> {
 
     /// A part: a place, or what starts with one of the opening bytes.
     #[cycle(closed_part_product_sum)]
-    fn part(&mut self, depth: Depth) -> Result<(), Fault>
-        ensures { Reads part depth.around self.old self.new result }
+    fn part(&mut self, nesting: Nesting) -> Result<(), Fault>
+        ensures { Reads part nesting.around self.old self.new result }
     {
         if let Some(place) = self.peek_place() {
             return self.name(place);
         }
-        let start = self.start(depth)?;
-        let inside = Depth {
-            around: depth.around + 1,
+        let start = self.start(nesting)?;
+        let inside = Nesting {
+            around: nesting.around + 1,
         };
         match start {
             Start::Ahead(step) => {
@@ -134,14 +134,14 @@ impl Reader<'_> {
     /// A product: parts joined by '*', carried out from the left.
     // Beside `sum`, and not one function with it: each category of the grammar has its reader and its contract.
     #[cycle(closed_part_product_sum)]
-    fn product(&mut self, depth: Depth) -> Result<(), Fault>
-        ensures { Reads product depth.around self.old self.new result }
+    fn product(&mut self, nesting: Nesting) -> Result<(), Fault>
+        ensures { Reads product nesting.around self.old self.new result }
     {
-        self.part(depth)?;
+        self.part(nesting)?;
         // As long as the sign stands there.
         while self.take(b'*') {
             let mark = self.pos - 1;
-            self.part(depth)?;
+            self.part(nesting)?;
             self.push(Step::Multiply(mark), self.waiting - 1);
         }
         Ok(())
@@ -149,14 +149,14 @@ impl Reader<'_> {
 
     /// A sum: products joined by '+', carried out from the left.
     #[cycle(closed_part_product_sum)]
-    fn sum(&mut self, depth: Depth) -> Result<(), Fault>
-        ensures { Reads sum depth.around self.old self.new result }
+    fn sum(&mut self, nesting: Nesting) -> Result<(), Fault>
+        ensures { Reads sum nesting.around self.old self.new result }
     {
-        self.product(depth)?;
+        self.product(nesting)?;
         // As long as the sign stands there.
         while self.take(b'+') {
             let mark = self.pos - 1;
-            self.product(depth)?;
+            self.product(nesting)?;
             self.push(Step::Add(mark), self.waiting - 1);
         }
         Ok(())
@@ -164,10 +164,10 @@ impl Reader<'_> {
 
     /// A sum and the byte behind it.
     #[cycle(closed_part_product_sum)]
-    fn closed(&mut self, depth: Depth, end: u8) -> Result<(), Fault>
-        ensures { Reads (closed end) depth.around self.old self.new result }
+    fn closed(&mut self, nesting: Nesting, end: u8) -> Result<(), Fault>
+        ensures { Reads (closed end) nesting.around self.old self.new result }
     {
-        self.sum(depth)?;
+        self.sum(nesting)?;
         self.expect(end)
     }
 
@@ -181,7 +181,7 @@ impl Reader<'_> {
         };
         self.pos += 1;
         self.expect(b'=')?;
-        self.closed(Depth { around: 0 }, b'\n')?;
+        self.closed(Nesting { around: 0 }, b'\n')?;
         self.push(Step::Store(target), self.waiting - 1);
         Ok(())
     }

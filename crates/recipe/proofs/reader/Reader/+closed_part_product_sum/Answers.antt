@@ -14,7 +14,7 @@ closed-returns t c =
     closed_reads _ _ c.expect.result g.0 g.1 c.expect.ensures
 
 pub part-returns-in-Some : goal.part-returns-in-Some
-part-returns-in-Some t c = c.name.ensures c.args.depth.around
+part-returns-in-Some t c = c.name.ensures c.args.nesting.around
 
 pub part-returns-in_err-part-in-Ahead : goal.part-returns-in_err-part-in-Ahead
 part-returns-in_err-part-in-Ahead t c =
@@ -74,40 +74,40 @@ pub product-returns-in_err-part : goal.product-returns-in_err-part
 product-returns-in_err-part t c = passed _ _ c.from_residual.ensures.1 (lost_single c.in_err-part.ensures)
 
 pub product-returns-in_err-part-2 : goal.product-returns-in_err-part-2
-product-returns-in_err-part-2 t c = passed _ _ c.from_residual-in_err-part-2.ensures.1 (lost_times (c.loop-depth.invariant.1 _ (got_single c.in_ok-part.ensures.0)) c.loop-depth-test.ensures c.in_err-part-2.ensures)
+product-returns-in_err-part-2 t c = passed _ _ c.from_residual-in_err-part-2.ensures.1 (lost_times (c.loop-nesting.invariant.1 _ (got_single c.in_ok-part.ensures.0)) c.loop-nesting-test.ensures c.in_err-part-2.ensures)
 
 pub product-push-requires-clause-room : goal.product-push-requires-clause-room
-product-push-requires-clause-room t c = room_after (omega arith) c.loop-depth-test.ensures c.in_ok-part-2.ensures.0
+product-push-requires-clause-room t c = room_after (omega arith) c.loop-nesting-test.ensures c.in_ok-part-2.ensures.0
 
-pub product-loop-depth-preserved : goal.product-loop-depth-preserved
-product-loop-depth-preserved t c =
+pub product-loop-nesting-preserved : goal.product-loop-nesting-preserved
+product-loop-nesting-preserved t c =
     let g = c.in_ok-part-2.ensures.0 in
-    let k = c.loop-depth-test.ensures in
-    (c.push.ensures.did.same ∙ g.did.same ∙ k.did.same ∙ c.loop-depth.invariant.0, λ a q. got_times (c.loop-depth.invariant.1 a q) k g c.push.ensures)
+    let k = c.loop-nesting-test.ensures in
+    (c.push.ensures.did.same ∙ g.did.same ∙ k.did.same ∙ c.loop-nesting.invariant.0, λ a q. got_times (c.loop-nesting.invariant.1 a q) k g c.push.ensures)
 
 pub product-returns : goal.product-returns
 product-returns t c =
-    let k = c.loop-depth-test.ensures in
-    subst (λ v. Got product c.args.depth.around c.args.self.now v × (first (left v) ≡ Some 42 → ⊥)) (sym k.0)
-    (c.loop-depth.invariant.1 _ (got_single c.in_ok-part.ensures.0), k.1)
+    let k = c.loop-nesting-test.ensures in
+    subst (λ v. Got product c.args.nesting.around c.args.self.now v × (first (left v) ≡ Some 42 → ⊥)) (sym k.0)
+    (c.loop-nesting.invariant.1 _ (got_single c.in_ok-part.ensures.0), k.1)
 
 pub sum-returns-in_err-product : goal.sum-returns-in_err-product
 sum-returns-in_err-product t c = passed _ _ c.from_residual.ensures.1 (lost_one c.in_err-product.ensures)
 
 pub sum-returns-in_err-product-2 : goal.sum-returns-in_err-product-2
-sum-returns-in_err-product-2 t c = passed _ _ c.from_residual-in_err-product-2.ensures.1 (lost_plus (c.loop-depth.invariant.1 _ (got_one c.in_ok-product.ensures.0)) c.loop-depth-test.ensures c.in_err-product-2.ensures)
+sum-returns-in_err-product-2 t c = passed _ _ c.from_residual-in_err-product-2.ensures.1 (lost_plus (c.loop-nesting.invariant.1 _ (got_one c.in_ok-product.ensures.0)) c.loop-nesting-test.ensures c.in_err-product-2.ensures)
 
 pub sum-push-requires-clause-room : goal.sum-push-requires-clause-room
-sum-push-requires-clause-room t c = room_after (omega arith) c.loop-depth-test.ensures c.in_ok-product-2.ensures.0
+sum-push-requires-clause-room t c = room_after (omega arith) c.loop-nesting-test.ensures c.in_ok-product-2.ensures.0
 
-pub sum-loop-depth-preserved : goal.sum-loop-depth-preserved
-sum-loop-depth-preserved t c =
+pub sum-loop-nesting-preserved : goal.sum-loop-nesting-preserved
+sum-loop-nesting-preserved t c =
     let g = c.in_ok-product-2.ensures in
-    let k = c.loop-depth-test.ensures in
-    (c.push.ensures.did.same ∙ g.0.did.same ∙ k.did.same ∙ c.loop-depth.invariant.0, λ a q. got_plus (c.loop-depth.invariant.1 a q) k g.0 c.push.ensures, λ e. g.1 (ap first c.push.ensures.did.split ∙ e))
+    let k = c.loop-nesting-test.ensures in
+    (c.push.ensures.did.same ∙ g.0.did.same ∙ k.did.same ∙ c.loop-nesting.invariant.0, λ a q. got_plus (c.loop-nesting.invariant.1 a q) k g.0 c.push.ensures, λ e. g.1 (ap first c.push.ensures.did.split ∙ e))
 
 pub sum-returns : goal.sum-returns
 sum-returns t c =
-    let k = c.loop-depth-test.ensures in
-    subst (λ v. Got sum c.args.depth.around c.args.self.now v × ((first (left v) ≡ Some 42 → ⊥) × (first (left v) ≡ Some 43 → ⊥))) (sym k.0)
-    (c.loop-depth.invariant.1 _ (got_one c.in_ok-product.ensures.0), (c.loop-depth.invariant.2, k.1))
+    let k = c.loop-nesting-test.ensures in
+    subst (λ v. Got sum c.args.nesting.around c.args.self.now v × ((first (left v) ≡ Some 42 → ⊥) × (first (left v) ≡ Some 43 → ⊥))) (sym k.0)
+    (c.loop-nesting.invariant.1 _ (got_one c.in_ok-product.ensures.0), (c.loop-nesting.invariant.2, k.1))
