@@ -6,4 +6,4 @@ mod operations;
 mod stack;
 
 pub use fault::{LineFault, StepFault};
-pub use stack::Stack;
+pub use stack::{Stack, Working};

@@ -5,18 +5,19 @@ ghost use Rattle.stack.specs.Stacks.{bodies};
 ghost use Rattle.stack.specs.Waiting.{body_at, Drawn};
 
 use crate::fault::StepFault;
-use crate::stack::Stack;
+use crate::stack::Working;
 use picture::{BAY, Quadrant, Stored};
 use weight::Weight;
 
 // A method for each: one that was handed the operation would say of it what these say now. How many bodies wait is a
 // fact of the moment, and so a clause.
-impl<W: Weight> Stack<'_, W> {
+impl<W: Weight> Working<'_, '_, W> {
     /// Turns the latest body clockwise by a quarter.
     pub fn turn(&mut self)
-        requires { 1 ≤ self.old.height }
+        requires { 1 ≤ self.old.stack.now.height }
         ensures bodies { bodies self.new ≡ turned_body (body_at (bodies self.old) 0) ∷ drop 1 (bodies self.old) }
-        ensures height { self.new.height ≡ self.old.height }
+        ensures height { self.new.stack.now.height ≡ self.old.stack.now.height }
+        ensures same_stack { self.new.stack.ghost_name ≡ self.old.stack.ghost_name }
         ensures same_reference { self.new.work.ghost_name ≡ self.old.work.ghost_name }
     {
         let mut result = [W::zero(); BAY];
@@ -30,9 +31,10 @@ impl<W: Weight> Stack<'_, W> {
 
     /// Exchanges left and right in the latest body.
     pub fn mirror(&mut self)
-        requires { 1 ≤ self.old.height }
+        requires { 1 ≤ self.old.stack.now.height }
         ensures bodies { bodies self.new ≡ mirrored_body (body_at (bodies self.old) 0) ∷ drop 1 (bodies self.old) }
-        ensures height { self.new.height ≡ self.old.height }
+        ensures height { self.new.stack.now.height ≡ self.old.stack.now.height }
+        ensures same_stack { self.new.stack.ghost_name ≡ self.old.stack.ghost_name }
         ensures same_reference { self.new.work.ghost_name ≡ self.old.work.ghost_name }
     {
         let mut result = [W::zero(); BAY];
@@ -46,9 +48,10 @@ impl<W: Weight> Stack<'_, W> {
 
     /// Zooms the latest body into a quadrant.
     pub fn zoom(&mut self, quadrant: Quadrant)
-        requires { 1 ≤ self.old.height }
+        requires { 1 ≤ self.old.stack.now.height }
         ensures bodies { bodies self.new ≡ zoomed_body W.kind quadrant (body_at (bodies self.old) 0) ∷ drop 1 (bodies self.old) }
-        ensures height { self.new.height ≡ self.old.height }
+        ensures height { self.new.stack.now.height ≡ self.old.stack.now.height }
+        ensures same_stack { self.new.stack.ghost_name ≡ self.old.stack.ghost_name }
         ensures same_reference { self.new.work.ghost_name ≡ self.old.work.ghost_name }
     {
         let mut result = [W::zero(); BAY];
@@ -62,9 +65,10 @@ impl<W: Weight> Stack<'_, W> {
 
     /// Makes the sum of the latest two bodies, the older one on the left; the mark is the byte index of the '+'.
     pub fn add(&mut self, mark: usize) -> Result<(), StepFault>
-        requires { 2 ≤ self.old.height }
+        requires { 2 ≤ self.old.stack.now.height }
         ensures drawn { Drawn ((drawing W.kind).add mark (body_at (bodies self.old) 1) (body_at (bodies self.old) 0)) (drop 2 (bodies self.old)) (bodies self.new) result }
-        ensures height { OnOk result (self.new.height ≡ self.old.height - 1) }
+        ensures height { OnOk result (self.new.stack.now.height ≡ self.old.stack.now.height - 1) }
+        ensures same_stack { self.new.stack.ghost_name ≡ self.old.stack.ghost_name }
         ensures same_reference { self.new.work.ghost_name ≡ self.old.work.ghost_name }
     {
         let mut result = [W::zero(); BAY];
@@ -74,9 +78,10 @@ impl<W: Weight> Stack<'_, W> {
 
     /// Makes the product of the latest two bodies, the older one on the left; the mark is the byte index of the '*'.
     pub fn multiply(&mut self, mark: usize) -> Result<(), StepFault>
-        requires { 2 ≤ self.old.height }
+        requires { 2 ≤ self.old.stack.now.height }
         ensures drawn { Drawn ((drawing W.kind).multiply mark (body_at (bodies self.old) 1) (body_at (bodies self.old) 0)) (drop 2 (bodies self.old)) (bodies self.new) result }
-        ensures height { OnOk result (self.new.height ≡ self.old.height - 1) }
+        ensures height { OnOk result (self.new.stack.now.height ≡ self.old.stack.now.height - 1) }
+        ensures same_stack { self.new.stack.ghost_name ≡ self.old.stack.ghost_name }
         ensures same_reference { self.new.work.ghost_name ≡ self.old.work.ghost_name }
     {
         let mut result = [W::zero(); BAY];
@@ -86,9 +91,10 @@ impl<W: Weight> Stack<'_, W> {
 
     /// Pieces the latest four bodies, for the quadrants 0 to 3 from the oldest on; the mark is the byte index of the ']'.
     pub fn piece(&mut self, mark: usize) -> Result<(), StepFault>
-        requires { 4 ≤ self.old.height }
+        requires { 4 ≤ self.old.stack.now.height }
         ensures drawn { Drawn ((drawing W.kind).piece mark (body_at (bodies self.old) 3) (body_at (bodies self.old) 2) (body_at (bodies self.old) 1) (body_at (bodies self.old) 0)) (drop 4 (bodies self.old)) (bodies self.new) result }
-        ensures height { OnOk result (self.new.height ≡ self.old.height - 3) }
+        ensures height { OnOk result (self.new.stack.now.height ≡ self.old.stack.now.height - 3) }
+        ensures same_stack { self.new.stack.ghost_name ≡ self.old.stack.ghost_name }
         ensures same_reference { self.new.work.ghost_name ≡ self.old.work.ghost_name }
     {
         let mut result = [W::zero(); BAY];

@@ -1,8 +1,8 @@
-ghost use Rattle.std.specs.Prelude.{◌≡◌, ◌+◌, ◌-◌, ◌<◌, ◌≤◌, ◌∷◌, length, drop, IfOk, OnOk};
+ghost use Rattle.std.specs.Prelude.{◌≡◌, ◌+◌, ◌-◌, ◌<◌, ◌≤◌, ◌∷◌, length, drop, slice_set, slice_index_or, IfOk, OnOk};
 ghost use Rattle.std.proofs.Props.{props};
 ghost use Rattle.picture.specs.Lent.{lent};
 ghost use Rattle.picture.specs.Stored.{stored, Kept};
-ghost use Rattle.stack.specs.Waiting.{body_at, KeptBelow, Settled};
+ghost use Rattle.stack.specs.Waiting.{no_record, waiting, body_at, KeptBelow, Settled};
 
 use crate::fault::StepFault;
 use compose::Fault;
@@ -10,62 +10,101 @@ use picture::{BAY, BLANK, Record, Stored};
 use recipe::MAX_WAITING;
 use weight::Weight;
 
-/// The bodies that wait, the oldest first: their records, and the working bays that are lent for their weights.
-#[derive(Drop)]
-pub struct Stack<'m, W> {
-    // An array and a height, and no `Vec`: the library has no heap.
+/// The records of the bodies that wait, the oldest first; each has its weights in the working bay of its slot.
+// An array and a height, and no `Vec`: the library has no heap.
+#[derive(Clone, Copy)]
+pub struct Stack {
     records: [Record; MAX_WAITING],
     height: usize,
-    work: &'m mut [W],
     ghost few: { height ≤ 6 },
     ghost kept: { KeptBelow height records } by { Prim.hlevel props },
-    ghost room: { length work.now ≡ 3840 },
 }
 
-// The length is a clause, and no array type: memory is lent as one slice and cut while the program runs.
-// `same_reference` says that a stack keeps the bays that it was lent: a clause of each method, since a type cannot
-// speak of what its value was before.
-impl<'m, W: Weight> Stack<'m, W> {
+impl Stack {
     ghost use Rattle.stack.specs.Stacks.{bodies};
 
     /// No body waits.
-    pub fn new(work: &'m mut [W]) -> Stack<'m, W>
-        requires { length work.old ≡ 3840 }
+    pub fn new() -> Stack
         ensures none { result.height ≡ 0 }
-        ensures same_reference { result.work.ghost_name ≡ work.entry.ghost_name }
     {
         Stack {
             records: [BLANK; MAX_WAITING],
             height: 0,
-            work,
         }
     }
 
+    /// The stack at work, in the working bays that are lent for the weights of its bodies.
+    pub fn over<'s, 'm, W>(&'s mut self, work: &'m mut [W]) -> Working<'s, 'm, W>
+        requires { length work.old ≡ 3840 }
+        ensures bodies { bodies result ≡ waiting self.old.height self.old.records work.old }
+        ensures height { result.stack.now.height ≡ self.old.height }
+        ensures same_stack { result.stack.ghost_name ≡ self.entry.ghost_name }
+        ensures same_reference { result.work.ghost_name ≡ work.entry.ghost_name }
+    {
+        Working { stack: self, work }
+    }
+
+    /// The record in a slot.
+    fn record(&self, slot: usize) -> &Record
+        requires { slot < 6 }
+        ensures { result.now ≡ slice_index_or self.now.records slot no_record }
+    {
+        &self.records[slot]
+    }
+
+    /// Writes the record of a slot, which becomes that of the latest body.
+    fn put(&mut self, slot: usize, record: &Record)
+        requires room { slot < 6 }
+        requires reached { slot ≤ self.old.height }
+        requires kept { Kept record.now }
+        ensures inside { slot < length self.old.records }
+        ensures records { self.new.records ≡ slice_set self.old.records slot record.now }
+        ensures height { self.new.height ≡ slot + 1 }
+    {
+        self.records[slot] = *record;
+        self.height = slot + 1;
+    }
+}
+
+/// A stack and the working bays that hold the weights of its bodies, both lent.
+#[derive(Drop)]
+pub struct Working<'s, 'm, W> {
+    stack: &'s mut Stack,
+    work: &'m mut [W],
+    ghost room: { length work.now ≡ 3840 },
+}
+
+// The length is a clause, and no array type: memory is lent as one slice and cut while the program runs.
+// `same_stack` and `same_reference` say that it keeps the stack and the bays that were lent: clauses of each method, since
+// a type cannot speak of what its value was before.
+impl<W: Weight> Working<'_, '_, W> {
+    ghost use Rattle.stack.specs.Stacks.{bodies};
+
     /// The body that waits at i, the latest at 0.
     pub(crate) fn waiting(&self, i: usize) -> Stored<'_, W>
-        requires { i < self.now.height }
+        requires { i < self.now.stack.now.height }
         ensures { lent result ≡ body_at (bodies self.now) i }
     {
-        let slot = self.height - i - 1;
+        let slot = self.stack.height - i - 1;
         Stored {
-            record: &self.records[slot],
+            record: self.stack.record(slot),
             weights: &self.work[BAY * slot..BAY * slot + BAY],
         }
     }
 
     /// Puts a body in place of the latest that wait.
     pub(crate) fn put(&mut self, taken: usize, body: Stored<'_, W>)
-        requires some { taken ≤ self.old.height }
-        requires room { self.old.height - taken < 6 }
+        requires some { taken ≤ self.old.stack.now.height }
+        requires room { self.old.stack.now.height - taken < 6 }
         ensures bodies { bodies self.new ≡ lent body.entry ∷ drop taken (bodies self.old) }
-        ensures height { self.new.height ≡ self.old.height - taken + 1 }
+        ensures height { self.new.stack.now.height ≡ self.old.stack.now.height - taken + 1 }
+        ensures same_stack { self.new.stack.ghost_name ≡ self.old.stack.ghost_name }
         ensures same_reference { self.new.work.ghost_name ≡ self.old.work.ghost_name }
     {
-        let slot = self.height - taken;
+        let slot = self.stack.height - taken;
         let bay = &mut self.work[BAY * slot..BAY * slot + BAY];
         bay.copy_from_slice(body.weights);
-        self.records[slot] = *body.record;
-        self.height = slot + 1;
+        self.stack.put(slot, body.record);
     }
 
     /// Puts the body of a step in place of those that it took, unless the step is refused.
@@ -76,12 +115,13 @@ impl<'m, W: Weight> Stack<'m, W> {
         mark: usize,
         weights: &[W],
     ) -> Result<(), StepFault>
-        requires some { taken ≤ self.old.height }
-        requires room { self.old.height - taken < 6 }
+        requires some { taken ≤ self.old.stack.now.height }
+        requires room { self.old.stack.now.height - taken < 6 }
         requires kept { IfOk drawn Kept }
         requires full { length weights.now ≡ 640 }
         ensures settled { Settled drawn mark weights.now (drop taken (bodies self.old)) (bodies self.new) result }
-        ensures height { OnOk result (self.new.height ≡ self.old.height - taken + 1) }
+        ensures height { OnOk result (self.new.stack.now.height ≡ self.old.stack.now.height - taken + 1) }
+        ensures same_stack { self.new.stack.ghost_name ≡ self.old.stack.ghost_name }
         ensures same_reference { self.new.work.ghost_name ≡ self.old.work.ghost_name }
     {
         let record = drawn.map_err(|fault| StepFault { mark, fault })?;
@@ -95,9 +135,10 @@ impl<'m, W: Weight> Stack<'m, W> {
 
     /// Adds a body, the latest now.
     pub fn push(&mut self, body: Stored<'_, W>)
-        requires { self.old.height < 6 }
+        requires { self.old.stack.now.height < 6 }
         ensures bodies { bodies self.new ≡ lent body.entry ∷ bodies self.old }
-        ensures height { self.new.height ≡ self.old.height + 1 }
+        ensures height { self.new.stack.now.height ≡ self.old.stack.now.height + 1 }
+        ensures same_stack { self.new.stack.ghost_name ≡ self.old.stack.ghost_name }
         ensures same_reference { self.new.work.ghost_name ≡ self.old.work.ghost_name }
     {
         self.put(0, body);
@@ -105,18 +146,19 @@ impl<'m, W: Weight> Stack<'m, W> {
 
     /// Takes the latest body: its record, and its weights into `out`.
     pub fn pop(&mut self, out: &mut [W]) -> Record
-        requires some { 1 ≤ self.old.height }
+        requires some { 1 ≤ self.old.stack.now.height }
         requires full { length out.old ≡ 640 }
         ensures body { stored result out.new ≡ body_at (bodies self.old) 0 }
         ensures rest { bodies self.new ≡ drop 1 (bodies self.old) }
         ensures kept { Kept result }
-        ensures height { self.new.height ≡ self.old.height - 1 }
+        ensures height { self.new.stack.now.height ≡ self.old.stack.now.height - 1 }
+        ensures same_stack { self.new.stack.ghost_name ≡ self.old.stack.ghost_name }
         ensures same_reference { self.new.work.ghost_name ≡ self.old.work.ghost_name }
     {
         let latest = self.waiting(0);
         let record = *latest.record;
         out.copy_from_slice(latest.weights);
-        self.height -= 1;
+        self.stack.height -= 1;
         record
     }
 }

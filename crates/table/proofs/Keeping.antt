@@ -20,17 +20,21 @@ all_taken P xs zero d h = tt
 all_taken P [] (suc n) d h = tt
 all_taken P (x ∷ xs) (suc n) d h = (h zero (omega arith), all_taken P xs n d (λ i l. h (suc i) (omega arith)))
 
--- the record of a place is within the limits
-pub kept_at : (t : Table) → AllKept t → (p : Place) → Kept (record_of t p)
-kept_at t all p = record {
-  few_states = all.few_states (number p);
-  few_arcs = all.few_arcs (number p);
-  ends = rw sub-zero (all_taken _ _ _ no_arc (all.ends (number p)));
+-- the record at each index is within the limits
+kept_index : (t : Table) → AllKept t → (n : ℕ) → Kept (get_or t.records n no_record)
+kept_index t all n = record {
+  few_states = all.few_states n;
+  few_arcs = all.few_arcs n;
+  ends = rw sub-zero (all_taken _ _ _ no_arc (all.ends n));
 }
 
+-- the record of a place is within the limits
+pub kept_at : (t : Table) → AllKept t → (p : Place) → Kept (record_of t p)
+kept_at t all p = kept_index t all (number p)
+
 -- also a record that is read from it
-pub read_kept : (t : Table) (p : Place) (r : Record) → r ≡ record_of t p → AllKept t → Kept r
-read_kept t p r is all = subst Kept (sym is) (kept_at t all p)
+pub read_kept : (t : Table) (n : ℕ) (r : Record) → r ≡ get_or t.records n no_record → AllKept t → Kept r
+read_kept t n r is all = subst Kept (sym is) (kept_index t all n)
 
 -- what holds of each element and of y holds of each once y is written
 set_holds : {X : Type 0} (P : X → Type 0) (xs : List X) (n : ℕ) (y d : X) → ((i : ℕ) → P (get_or xs i d)) → P y → (i : ℕ) → P (get_or (set xs n y) i d)

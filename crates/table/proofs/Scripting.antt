@@ -12,7 +12,7 @@ use Rattle.stack.specs.Drawing.{drawing}
 use Rattle.stack.specs.Stacks.{bodies}
 use Rattle.stack.specs.declared.fault.LineFault.{LineFault}
 use Rattle.stack.specs.declared.fault.StepFault.{StepFault}
-use Rattle.stack.specs.declared.stack.Stack.{Stack}
+use Rattle.stack.specs.declared.stack.Working.{Working}
 use Rattle.table.specs.Performing.{left_waiting, Fits, counted, Stepped, lines_done, Performed}
 use Rattle.table.specs.Limits.{AllKept}
 use Rattle.table.specs.Tables.{body_of}
@@ -35,11 +35,11 @@ abbrev pub more : {V E : Type 0} → ℕ → Ran V E → Ran V E
 more n r = record { after = r.after; done = n + r.done; stop = r.stop }
 
 -- so many lines are done, and the steps before step i; the script began at the bodies `from`
-pub record Done {W : Type 0} (k : Kind W) (steps : List Step) (i lines : ℕ) (from : Place → Body W) (table : Table) (bays : List W) (stack : Stack W) : Type 0 where
+pub record Done {W : Type 0} (k : Kind W) (steps : List Step) (i lines : ℕ) (from : Place → Body W) (table : Table) (bays : List W) (stack : Working W) : Type 0 where
   pub kept : AllKept table
   pub long : length bays ≡ 5120
   pub fewer : lines ≤ i
-  pub carries : Carries stack.height (drop i steps) 0
+  pub carries : Carries stack.stack.now.height (drop i steps) 0
   pub goes : carry (drawing k) steps [] from ≡ more lines (carry (drawing k) (drop i steps) (bodies stack) (body_of table bays))
 
 -- a step that stores ends its line
@@ -59,22 +59,22 @@ count_other (Multiply i) n h r = refl
 count_other (Piece i) n h r = refl
 count_other (Store p) n h r = absurd (h p refl)
 
-module _ {W : Type 0} (k : Kind W) (steps : List Step) (i lines : ℕ) (from : Place → Body W) (t : Table) (bays : List W) (s : Stack W) (d : Done k steps i lines from t bays s) where
+module _ {W : Type 0} (k : Kind W) (steps : List Step) (i lines : ℕ) (from : Place → Body W) (t : Table) (bays : List W) (s : Working W) (d : Done k steps i lines from t bays s) where
   module _ (default step : Step) (is : get_or steps i default ≡ step) (low : i < length steps) where
     split : drop i steps ≡ step ∷ drop (i + 1) steps
     split = drop_more steps i default low ∙ ap (λ (x : Step). x ∷ drop (i + 1) steps) is
 
-    here : Fits step s.height × Carries (left_waiting step s.height) (drop (i + 1) steps) 0
-    here = fits_first step (drop (i + 1) steps) s.height 0 (subst (λ (ss : List Step). Carries s.height ss 0) split d.carries)
+    here : Fits step s.stack.now.height × Carries (left_waiting step s.stack.now.height) (drop (i + 1) steps) 0
+    here = fits_first step (drop (i + 1) steps) s.stack.now.height 0 (subst (λ (ss : List Step). Carries s.stack.now.height ss 0) split d.carries)
 
-    pub here_fits : Fits step s.height
+    pub here_fits : Fits step s.stack.now.height
     here_fits = here.0
 
     here_goes : carry (drawing k) steps [] from ≡ more lines (carry (drawing k) (step ∷ drop (i + 1) steps) (bodies s) (body_of t bays))
     here_goes = d.goes ∙ ap (λ (ss : List Step). more lines (carry (drawing k) ss (bodies s) (body_of t bays))) split
 
     -- a step more
-    pub done_more : (table : Table) (after : List W) (stack : Stack W) (n : ℕ) → AllKept table → length after ≡ 5120 → stack.height ≡ left_waiting step s.height
+    pub done_more : (table : Table) (after : List W) (stack : Working W) (n : ℕ) → AllKept table → length after ≡ 5120 → stack.stack.now.height ≡ left_waiting step s.stack.now.height
         → n ≤ lines + 1 → ((r : Ran (Body W) StepFault) → more lines (counted step r) ≡ more n r)
         → Stepped k step (body_of t bays) (body_of table after) (bodies s) (bodies stack) (Ok tt)
         → Done k steps (i + 1) n from table after stack

@@ -14,7 +14,7 @@ ghost use Rattle.table.specs.Tables.{body_of};
 use crate::table::{PLACES, Table};
 use picture::{BAY, Stored};
 use recipe::{MAX_WAITING, Place, Step};
-use stack::{LineFault, Stack, StepFault};
+use stack::{LineFault, Stack, StepFault, Working};
 use weight::Weight;
 
 /// How many weights the bays of the places have; the working bays lie behind them.
@@ -39,13 +39,13 @@ impl Table {
     }
 
     /// Puts the latest body on a place.
-    fn store<W: Weight>(&mut self, place: Place, bays: &mut [W], stack: &mut Stack<'_, W>)
+    fn store<W: Weight>(&mut self, place: Place, bays: &mut [W], stack: &mut Working<'_, '_, W>)
         requires kept { AllKept self.old }
         requires bays { length bays.old ≡ 5120 }
-        requires some { 1 ≤ stack.old.height }
+        requires some { 1 ≤ stack.old.stack.now.height }
         ensures places { body_of self.new bays.new ≡ recipe.put place (body_at (bodies stack.old) 0) (body_of self.old bays.old) }
         ensures waiting { bodies stack.new ≡ drop 1 (bodies stack.old) }
-        ensures height { stack.new.height ≡ stack.old.height - 1 }
+        ensures height { stack.new.stack.now.height ≡ stack.old.stack.now.height - 1 }
         ensures kept { AllKept self.new }
     {
         let at = BAY * usize::from(place);
@@ -58,13 +58,13 @@ impl Table {
         &mut self,
         step: Step,
         bays: &mut [W],
-        stack: &mut Stack<'_, W>,
+        stack: &mut Working<'_, '_, W>,
     ) -> Result<(), StepFault>
-        requires fits { Fits step stack.old.height }
+        requires fits { Fits step stack.old.stack.now.height }
         requires kept { AllKept self.old }
         requires bays { length bays.old ≡ 5120 }
         ensures stepped { Stepped W.kind step (body_of self.old bays.old) (body_of self.new bays.new) (bodies stack.old) (bodies stack.new) result }
-        ensures height { OnOk result (stack.new.height ≡ left_waiting step stack.old.height) }
+        ensures height { OnOk result (stack.new.stack.now.height ≡ left_waiting step stack.old.stack.now.height) }
         ensures kept { AllKept self.new }
     {
         // Steps are data, read from a script: an enum, and no closures.
@@ -94,11 +94,12 @@ impl Table {
         ensures kept { AllKept self.new }
     {
         let (bays, rest) = memory.split_at_mut(PLACE_WEIGHTS);
-        let mut stack = Stack::new(&mut rest[0..WORK_WEIGHTS]);
+        let mut stack = Stack::new();
+        let mut waiting = stack.over(&mut rest[0..WORK_WEIGHTS]);
         let mut lines = 0;
         for step in steps {
             // No `map_err` and `?`: in this loop the proof did not close.
-            if let Err(step) = self.step(*step, bays, &mut stack) {
+            if let Err(step) = self.step(*step, bays, &mut waiting) {
                 return Err(LineFault { line: lines, step });
             }
             if let Step::Store(_) = step {

@@ -8,6 +8,6 @@ pub invariant_of-result : goal.invariant_of-result
 invariant_of-result g c =
     let low = number_below c.args.place in
     record {
-      kept = read_kept c.args.self.now c.args.place c.«record».result.now c.«record».ensures c.requires.kept;
+      kept = read_kept c.args.self.now _ c.«record».result.now c.«record».ensures c.requires.kept;
       room = length_bay c.from-at.result c.args.bays.now (omega arith);
     }
