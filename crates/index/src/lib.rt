@@ -8,3 +8,4 @@ mod sums;
 
 pub use arcs::Arcs;
 pub use index::{End, Index, build};
+pub use steps::{step_column, step_row};
