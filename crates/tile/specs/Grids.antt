@@ -13,8 +13,8 @@ module _ {W : Type 0} {w : Ghosts W} where
 
   -- what the row becomes along each cell in row y of the coarse digits
   abbrev pub rows_of : Grid W w → ℕ → List W
-  rows_of g y = rows_along w.kind (edges g.body.arcs) g.body.arcs.states g.row.now g.coarse y
+  rows_of g y = rows_along w.kind (edges g.body.now.arcs) g.body.now.arcs.states g.row.now g.coarse y
 
   -- row y of the cells
   abbrev pub row_of : Grid W w → ℕ → List W
-  row_of g y = cells_in_row w.kind (body g.body) g.row.now (depth_of g) y
+  row_of g y = cells_in_row w.kind (body g.body.now) g.row.now (depth_of g) y

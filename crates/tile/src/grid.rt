@@ -1,7 +1,6 @@
 ghost use Rattle.std.specs.Prelude.{◌≡◌, ◌+◌, ◌≤◌, ◌++◌, length};
 ghost use Rattle.index.specs.Terms.{edges};
 ghost use Rattle.picture.specs.Cells.{base_four};
-ghost use Rattle.picture.specs.Lent.{lent};
 ghost use Rattle.picture.specs.Pictures.{value, picture};
 ghost use Rattle.picture.specs.Quadrants.{Address};
 ghost use Rattle.picture.specs.Steps.{at_state};
@@ -12,33 +11,35 @@ use crate::automaton::Automaton;
 use crate::powers::power;
 use crate::room::{COLUMNS, FINE, PAIR};
 use crate::square::Square;
-use picture::Stored;
 use weight::Weight;
 
 /// The cells below a row: their coarse digits are taken by rows, and their last and fine ones by columns.
 #[derive(Drop)]
-pub(crate) struct Grid<'s, 'a, W: Weight> {
-    pub body: Automaton<'a, W>,
+pub(crate) struct Grid<'s, 'b, 'a, W: Weight> {
+    pub body: &'b Automaton<'a, W>,
     pub row: &'s [W],
     pub coarse: u8,
     pub fine: u8,
     pub columns: &'s [W],
-    ghost row_long: { length row.now ≡ body.arcs.states },
+    ghost row_long: { length row.now ≡ body.now.arcs.states },
     ghost few_coarse: { coarse ≤ 4 },
     ghost few_fine: { fine ≤ 2 },
-    ghost all_columns: { columns.now ≡ columns_along W.kind (edges body.arcs) body.arcs.states body.last.now fine },
+    ghost all_columns: { columns.now ≡ columns_along W.kind (edges body.now.arcs) body.now.arcs.states body.now.last.now fine },
 }
 
 // The length is a clause, and no array type: memory is lent as one slice and cut while the program runs.
-impl<'s, 'a, W: Weight> Grid<'s, 'a, W> {
+impl<'s, 'b, 'a, W: Weight> Grid<'s, 'b, 'a, W> {
     /// The grid of a square of cells of a body; `room` is for two rows, for its columns, and for four more.
-    pub(crate) fn new(body: Stored<'a, W>, square: Square, room: &'s mut [W]) -> Grid<'s, 'a, W>
+    pub(crate) fn new(
+        body: &'b Automaton<'a, W>,
+        square: Square,
+        room: &'s mut [W],
+    ) -> Grid<'s, 'b, 'a, W>
         requires { length room.old ≡ 1408 }
-        ensures body { automata.body result.body ≡ lent body.entry }
+        ensures body { result.body.now ≡ body.now }
         ensures depth { result.coarse + result.fine ≡ square.depth }
-        ensures value { (w : Address) → value W.kind (automata.body result.body) (at_state W.kind result.row.now) w ≡ picture W.kind (automata.body result.body) (base_four square.digits square.prefix ++ w) }
+        ensures value { (w : Address) → value W.kind (automata.body result.body.now) (at_state W.kind result.row.now) w ≡ picture W.kind (automata.body result.body.now) (base_four square.digits square.prefix ++ w) }
     {
-        let body = Automaton::new(body);
         let (pair, rest) = room.split_at_mut(PAIR);
         let row = body.along(square, pair);
         let fine = square.depth.min(FINE);

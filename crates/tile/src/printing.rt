@@ -7,6 +7,7 @@ ghost use Rattle.tile.specs.Faults.{number, text};
 ghost use Rattle.tile.specs.Outcomes.{Outcome, RowOutcome};
 ghost use Rattle.tile.specs.declared.printing.Fault.TheVariants.{NoTile};
 
+use crate::automaton::Automaton;
 use crate::grid::Grid;
 use crate::powers::{power, side};
 use crate::room::GRID;
@@ -102,8 +103,9 @@ pub fn print<W: Weight>(
     if cells.len() < count {
         return Err(Fault::ShortOutput);
     }
+    let body = Automaton::new(body);
     let (room, rest) = scratch.split_at_mut(GRID);
-    Grid::new(body, square, room).all(rest, &mut cells[0..count]);
+    Grid::new(&body, square, room).all(rest, &mut cells[0..count]);
     Ok(count)
 }
 
@@ -127,7 +129,8 @@ pub fn print_row<W: Weight>(
     if cells.len() < wide {
         return Err(Fault::ShortOutput);
     }
+    let body = Automaton::new(body);
     let (room, rest) = scratch.split_at_mut(GRID);
-    Grid::new(body, square, room).row(y, rest, &mut cells[0..wide]);
+    Grid::new(&body, square, room).row(y, rest, &mut cells[0..wide]);
     Ok(wide)
 }

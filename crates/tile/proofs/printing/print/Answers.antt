@@ -27,7 +27,7 @@ returns g c =
       cells =
           ap₂ ◌++◌
           (tile_below c.new.result _ square.depth made.depth made.value _ c.all.ensures
-          ∙ ap (λ u. map (picture k (body c.new.result.body)) (cells_below u square.depth)) (ap₂ base_four named.2 named.1)
-          ∙ ap₂ (λ b d. map (picture k b) (cells_below u d)) made.body named.3)
+          ∙ ap (λ u. map (picture k (body c.new.result.body.now)) (cells_below u square.depth)) (ap₂ base_four named.2 named.1)
+          ∙ ap₂ (λ b d. map (picture k b) (cells_below u d)) (ap body made.body ∙ c.new-body.ensures) named.3)
           (ap (λ n. drop n c.args.cells.now) (omega arith));
     }

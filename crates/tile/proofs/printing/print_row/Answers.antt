@@ -22,7 +22,7 @@ returns g c =
           ap₂ ◌++◌
           (c.row.ensures
           ∙ row_below c.new.result _ square.depth made.depth made.value c.args.y
-          ∙ ap (λ u. map (picture k (body c.new.result.body)) (row_of_cells u square.depth c.args.y)) (ap₂ base_four named.2 named.1)
-          ∙ ap₂ (λ b d. map (picture k b) (row_of_cells u d c.args.y)) made.body named.3)
+          ∙ ap (λ u. map (picture k (body c.new.result.body.now)) (row_of_cells u square.depth c.args.y)) (ap₂ base_four named.2 named.1)
+          ∙ ap₂ (λ b d. map (picture k b) (row_of_cells u d c.args.y)) (ap body made.body ∙ c.new-body.ensures) named.3)
           (ap (λ n. drop n c.args.cells.now) (omega arith));
     }

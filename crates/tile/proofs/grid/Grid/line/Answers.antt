@@ -10,17 +10,17 @@ use Rattle.tile.proofs.grid.Grid.line.Goals as goal
 pub slot-row-requires : goal.slot-row-requires
 slot-row-requires g c =
     let s = c.args.self.now in
-    omega (arith, row_fits s.coarse s.fine c.loop-x.x s.body.arcs.states _ (omega (arith, c.loop-x-test.true)) (rows_long s _ c.args.rows.now c.requires.rows))
+    omega (arith, row_fits s.coarse s.fine c.loop-x.x s.body.now.arcs.states _ (omega (arith, c.loop-x-test.true)) (rows_long s _ c.args.rows.now c.requires.rows))
 
 pub slot-column-requires : goal.slot-column-requires
 slot-column-requires g c =
     let s = c.args.self.now in
-    column_fits s.fine c.loop-x.x c.args.y _ s.body.arcs.states _ c.interleave.ensures (columns_long s)
+    column_fits s.fine c.loop-x.x c.args.y _ s.body.now.arcs.states _ c.interleave.ensures (columns_long s)
 
 pub meet-requires : goal.meet-requires
 meet-requires g c =
     let s = c.args.self.now in
-    let n = s.body.arcs.states in
+    let n = s.body.now.arcs.states in
     let fits = row_fits s.coarse s.fine c.loop-x.x n _ (omega (arith, c.loop-x-test.true)) (rows_long s _ c.args.rows.now c.requires.rows) in
     ap length c.slot-row.ensures ∙ length_slot n _ c.args.rows.now (omega (arith, fits))
     ∙ sym (ap length c.slot-column.ensures ∙ length_slot n _ s.columns.now (column_fits s.fine c.loop-x.x c.args.y _ n _ c.interleave.ensures (columns_long s)))
@@ -29,7 +29,7 @@ pub loop-x-preserved : goal.loop-x-preserved
 loop-x-preserved g c =
     let k = g.W.Weight.kind in
     let s = c.args.self.now in
-    let n = s.body.arcs.states in
+    let n = s.body.now.arcs.states in
     let row = c.slot-row.result.now in
     let column = c.slot-column.result.now in
     let fits = row_fits s.coarse s.fine c.loop-x.x n _ (omega (arith, c.loop-x-test.true)) (rows_long s _ c.args.rows.now c.requires.rows) in

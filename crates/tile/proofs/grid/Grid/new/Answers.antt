@@ -4,10 +4,10 @@ use Rattle.tile.proofs.grid.Grid.new.Goals as goal
 
 pub overflow_mul-columns : goal.overflow_mul-columns
 overflow_mul-columns g c =
-    let n = c.new-body.result.arcs.states in
-    omega (arith, columns_small c.min-fine.result n (omega arith) c.new-body.result.arcs.few, ap (λ m. m * n) c.power.ensures)
+    let n = c.args.body.now.arcs.states in
+    omega (arith, columns_small c.min-fine.result n (omega arith) c.args.body.now.arcs.few, ap (λ m. m * n) c.power.ensures)
 
 pub slice_bounds-columns-end : goal.slice_bounds-columns-end
 slice_bounds-columns-end g c =
-    let n = c.new-body.result.arcs.states in
-    omega (arith, columns_small c.min-fine.result n (omega arith) c.new-body.result.arcs.few, ap (λ m. m * n) c.power.ensures)
+    let n = c.args.body.now.arcs.states in
+    omega (arith, columns_small c.min-fine.result n (omega arith) c.args.body.now.arcs.few, ap (λ m. m * n) c.power.ensures)
