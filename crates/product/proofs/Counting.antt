@@ -1,7 +1,9 @@
 -- How many arcs a product has.
-use Rattle.std.proofs.Common.{◌≡◌, ℕ, suc, ◌+◌, Bool, true, false, cond, List, [], ◌∷◌, ◌++◌, length, filter, refl, ap, ◌∙◌, ap₂, suc-mul, zero-mul, arith}
+use Rattle.std.proofs.Common.{◌≡◌, ℕ, suc, ◌+◌, ◌<◌, Bool, true, false, cond, List, [], ◌∷◌, ◌++◌, length, get_or, take, filter, refl, ap, ◌∙◌, ap₂, suc-mul, zero-mul, arith}
 use Rattle.std.specs.List.{zip, flat_map}
+use Rattle.std.proofs.lemmas.List.Elements.{filter_more}
 use Rattle.std.proofs.lemmas.List.{length-append}
+use Rattle.std.proofs.lemmas.Bool.{cond-true, cond-false}
 use Rattle.weight.specs.Kinds.{Kind}
 use Rattle.picture.specs.Bodies.{Edge}
 use Rattle.picture.specs.BodyOperations.{arc_from, arc_pair, arc_pairs}
@@ -10,6 +12,17 @@ use Rattle.picture.specs.declared.body.Arc.{Arc}
 use Rattle.picture.specs.declared.quadrant.Quadrant.{Quadrant}
 use Rattle.picture.specs.declared.quadrant.Quadrant.TheVariants.{UpperLeft, UpperRight, LowerLeft, LowerRight}
 use Rattle.product.specs.Counts.{tally, matches}
+
+module _ (d : Quadrant) (arcs : List Arc) (i : ℕ) (a : Arc) (h : i < length arcs) where
+  tally_step : tally d (take (i + 1) arcs) ≡ tally d (take i arcs) + length (cond (same d (get_or arcs i a).quadrant) (get_or arcs i a ∷ []) [])
+  tally_step = ap length (filter_more (λ x. same d x.quadrant) arcs i a h) ∙ length-append (filter (λ x. same d x.quadrant) (take i arcs)) _
+
+  -- one arc more, with the digit and without it
+  pub tally_same : same d (get_or arcs i a).quadrant ≡ true → tally d (take (i + 1) arcs) ≡ tally d (take i arcs) + 1
+  tally_same t = tally_step ∙ ap (λ (xs : List Arc). tally d (take i arcs) + length xs) (cond-true (same d (get_or arcs i a).quadrant) (get_or arcs i a ∷ []) [] t)
+
+  pub tally_other : same d (get_or arcs i a).quadrant ≡ false → tally d (take (i + 1) arcs) ≡ tally d (take i arcs)
+  tally_other t = tally_step ∙ ap (λ (xs : List Arc). tally d (take i arcs) + length xs) (cond-false (same d (get_or arcs i a).quadrant) (get_or arcs i a ∷ []) [] t) ∙ omega arith
 
 length_cond : {A B : Type 0} (t : Bool) (x : A) (xs : List A) (y : B) (ys : List B) → length xs ≡ length ys → length (cond t (x ∷ []) [] ++ xs) ≡ length (cond t (y ∷ ys) ys)
 length_cond true x xs y ys h = ap suc h
