@@ -1,4 +1,4 @@
-ghost use Rattle.std.specs.Prelude.{◌≡◌, length};
+ghost use Rattle.std.specs.Prelude.{◌≡◌, ⊤, length};
 ghost use Rattle.std.proofs.Props.{props};
 ghost use Rattle.picture.specs.Stored.{Kept};
 
@@ -15,6 +15,10 @@ pub struct Stored<'a, W> {
 
 // By hand: a derive asks for `W: Copy`, and much that holds a body has no bound on `W`.
 impl<W> Clone for Stored<'_, W> {
+    ghost is_clone = { λ x y. y ≡ x };
+
+    ghost is_infallible = { λ _. ⊤ };
+
     fn clone(&self) -> Result<Self, AllocError> {
         Ok(*self)
     }
