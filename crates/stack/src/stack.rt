@@ -44,6 +44,25 @@ impl Stack {
         Working { stack: self, work }
     }
 
+    /// Takes the latest body out of bays that stay as they are: its record, and its weights into `out`.
+    // The lengths are clauses, and no array types: memory is lent as one slice and cut while the program runs.
+    pub fn pop<W: Weight>(&mut self, work: &[W], out: &mut [W]) -> Record
+        requires some { 1 ≤ self.old.height }
+        requires bays { length work.now ≡ 3840 }
+        requires full { length out.old ≡ 640 }
+        ensures body { stored result out.new ≡ body_at (waiting self.old.height self.old.records work.now) 0 }
+        ensures rest { waiting self.new.height self.new.records work.now ≡ drop 1 (waiting self.old.height self.old.records work.now) }
+        ensures kept { Kept result }
+        ensures height { self.new.height ≡ self.old.height - 1 }
+    {
+        let slot = self.height - 1;
+        out.copy_from_slice(&work[BAY * slot..BAY * slot + BAY]);
+        self.height -= 1;
+        self.records[slot]
+    }
+
+    // Records are read and written here, and not by `Working`: of an array behind a `&mut` field a proof knows no length.
+
     /// The record in a slot.
     fn record(&self, slot: usize) -> &Record
         requires { slot < 6 }
@@ -53,15 +72,15 @@ impl Stack {
     }
 
     /// Writes the record of a slot, which becomes that of the latest body.
-    fn put(&mut self, slot: usize, record: &Record)
+    fn put(&mut self, slot: usize, latest: &Record)
         requires room { slot < 6 }
         requires reached { slot ≤ self.old.height }
-        requires kept { Kept record.now }
+        requires kept { Kept latest.now }
         ensures inside { slot < length self.old.records }
-        ensures records { self.new.records ≡ slice_set self.old.records slot record.now }
+        ensures records { self.new.records ≡ slice_set self.old.records slot latest.now }
         ensures height { self.new.height ≡ slot + 1 }
     {
-        self.records[slot] = *record;
+        self.records[slot] = *latest;
         self.height = slot + 1;
     }
 }
@@ -75,8 +94,8 @@ pub struct Working<'s, 'm, W> {
 }
 
 // The length is a clause, and no array type: memory is lent as one slice and cut while the program runs.
-// `same_stack` and `same_reference` say that it keeps the stack and the bays that were lent: clauses of each method, since
-// a type cannot speak of what its value was before.
+// `same_stack` and `same_reference` say that a `Working` keeps the stack and the bays that were lent: clauses of each
+// method, since a type cannot speak of what its value was before.
 impl<W: Weight> Working<'_, '_, W> {
     ghost use Rattle.stack.specs.Stacks.{bodies};
 
@@ -150,11 +169,13 @@ impl<W: Weight> Working<'_, '_, W> {
         requires full { length out.old ≡ 640 }
         ensures body { stored result out.new ≡ body_at (bodies self.old) 0 }
         ensures rest { bodies self.new ≡ drop 1 (bodies self.old) }
+        ensures bays { self.new.work.now ≡ self.old.work.now }
         ensures kept { Kept result }
         ensures height { self.new.stack.now.height ≡ self.old.stack.now.height - 1 }
         ensures same_stack { self.new.stack.ghost_name ≡ self.old.stack.ghost_name }
         ensures same_reference { self.new.work.ghost_name ≡ self.old.work.ghost_name }
     {
+        // `Stack::pop` again: of bays that are lent on as `&`, out of a field, a proof knows nothing afterwards.
         let latest = self.waiting(0);
         let record = *latest.record;
         out.copy_from_slice(latest.weights);

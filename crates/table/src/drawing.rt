@@ -23,7 +23,7 @@ pub const PLACE_WEIGHTS: usize = PLACES * BAY;
 /// How many weights the working bays have.
 const WORK_WEIGHTS: usize = MAX_WAITING * BAY;
 
-// The bays and the stack are parameters: a struct that lends them with the table would promise of each that it stays.
+// The bays and the stack at work are parameters: a struct that lends them with the table would promise of each that it stays.
 impl Table {
     /// The body of a place.
     pub fn body<'a, W: Weight>(&'a self, place: Place, bays: &'a [W]) -> Stored<'a, W>
@@ -39,17 +39,17 @@ impl Table {
     }
 
     /// Puts the latest body on a place.
-    fn store<W: Weight>(&mut self, place: Place, bays: &mut [W], stack: &mut Working<'_, '_, W>)
+    fn store<W: Weight>(&mut self, place: Place, bays: &mut [W], working: &mut Working<'_, '_, W>)
         requires kept { AllKept self.old }
         requires bays { length bays.old ≡ 5120 }
-        requires some { 1 ≤ stack.old.stack.now.height }
-        ensures places { body_of self.new bays.new ≡ recipe.put place (body_at (bodies stack.old) 0) (body_of self.old bays.old) }
-        ensures waiting { bodies stack.new ≡ drop 1 (bodies stack.old) }
-        ensures height { stack.new.stack.now.height ≡ stack.old.stack.now.height - 1 }
+        requires some { 1 ≤ working.old.stack.now.height }
+        ensures places { body_of self.new bays.new ≡ recipe.put place (body_at (bodies working.old) 0) (body_of self.old bays.old) }
+        ensures waiting { bodies working.new ≡ drop 1 (bodies working.old) }
+        ensures height { working.new.stack.now.height ≡ working.old.stack.now.height - 1 }
         ensures kept { AllKept self.new }
     {
         let at = BAY * usize::from(place);
-        let latest = stack.pop(&mut bays[at..at + BAY]);
+        let latest = working.pop(&mut bays[at..at + BAY]);
         self.put(place, latest);
     }
 
@@ -58,25 +58,25 @@ impl Table {
         &mut self,
         step: Step,
         bays: &mut [W],
-        stack: &mut Working<'_, '_, W>,
+        working: &mut Working<'_, '_, W>,
     ) -> Result<(), StepFault>
-        requires fits { Fits step stack.old.stack.now.height }
+        requires fits { Fits step working.old.stack.now.height }
         requires kept { AllKept self.old }
         requires bays { length bays.old ≡ 5120 }
-        ensures stepped { Stepped W.kind step (body_of self.old bays.old) (body_of self.new bays.new) (bodies stack.old) (bodies stack.new) result }
-        ensures height { OnOk result (stack.new.stack.now.height ≡ left_waiting step stack.old.stack.now.height) }
+        ensures stepped { Stepped W.kind step (body_of self.old bays.old) (body_of self.new bays.new) (bodies working.old) (bodies working.new) result }
+        ensures height { OnOk result (working.new.stack.now.height ≡ left_waiting step working.old.stack.now.height) }
         ensures kept { AllKept self.new }
     {
         // Steps are data, read from a script: an enum, and no closures.
         match step {
-            Step::Name(place) => stack.push(self.body(place, bays)),
-            Step::Turn => stack.turn(),
-            Step::Mirror => stack.mirror(),
-            Step::Zoom(quadrant) => stack.zoom(quadrant),
-            Step::Add(mark) => stack.add(mark)?,
-            Step::Multiply(mark) => stack.multiply(mark)?,
-            Step::Piece(mark) => stack.piece(mark)?,
-            Step::Store(place) => self.store(place, bays, stack),
+            Step::Name(place) => working.push(self.body(place, bays)),
+            Step::Turn => working.turn(),
+            Step::Mirror => working.mirror(),
+            Step::Zoom(quadrant) => working.zoom(quadrant),
+            Step::Add(mark) => working.add(mark)?,
+            Step::Multiply(mark) => working.multiply(mark)?,
+            Step::Piece(mark) => working.piece(mark)?,
+            Step::Store(place) => self.store(place, bays, working),
         }
         Ok(())
     }
@@ -95,11 +95,11 @@ impl Table {
     {
         let (bays, rest) = memory.split_at_mut(PLACE_WEIGHTS);
         let mut stack = Stack::new();
-        let mut waiting = stack.over(&mut rest[0..WORK_WEIGHTS]);
+        let mut working = stack.over(&mut rest[0..WORK_WEIGHTS]);
         let mut lines = 0;
         for step in steps {
             // No `map_err` and `?`: in this loop the proof did not close.
-            if let Err(step) = self.step(*step, bays, &mut waiting) {
+            if let Err(step) = self.step(*step, bays, &mut working) {
                 return Err(LineFault { line: lines, step });
             }
             if let Step::Store(_) = step {
