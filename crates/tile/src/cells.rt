@@ -27,7 +27,7 @@ fn interleave(digits: u8, x: usize, y: usize) -> usize
 }
 
 // The room is lent by the caller, for no heap is used: its length stands at each function that it goes through.
-impl<W: Weight> Grid<'_, '_, '_, W> {
+impl<W: Weight> Grid<'_, '_, W> {
     /// What the row becomes along each cell in row `y` of the coarse digits.
     fn rows<'r>(&self, y: usize, room: &'r mut [W]) -> &'r [W]
         requires room { length room.old ≡ 1280 }

@@ -15,8 +15,8 @@ use weight::Weight;
 
 /// The cells below a row: their coarse digits are taken by rows, and their last and fine ones by columns.
 #[derive(Drop)]
-pub(crate) struct Grid<'s, 'b, 'a, W: Weight> {
-    pub body: &'b Automaton<'a, W>,
+pub(crate) struct Grid<'s, 'a, W: Weight> {
+    pub body: &'s Automaton<'a, W>,
     pub row: &'s [W],
     pub coarse: u8,
     pub fine: u8,
@@ -28,13 +28,13 @@ pub(crate) struct Grid<'s, 'b, 'a, W: Weight> {
 }
 
 // The length is a clause, and no array type: memory is lent as one slice and cut while the program runs.
-impl<'s, 'b, 'a, W: Weight> Grid<'s, 'b, 'a, W> {
+impl<'s, 'a, W: Weight> Grid<'s, 'a, W> {
     /// The grid of a square of cells of a body; `room` is for two rows, for its columns, and for four more.
     pub(crate) fn new(
-        body: &'b Automaton<'a, W>,
+        body: &'s Automaton<'a, W>,
         square: Square,
         room: &'s mut [W],
-    ) -> Grid<'s, 'b, 'a, W>
+    ) -> Grid<'s, 'a, W>
         requires { length room.old ≡ 1408 }
         ensures body { result.body.now ≡ body.now }
         ensures depth { result.coarse + result.fine ≡ square.depth }
