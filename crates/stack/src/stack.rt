@@ -34,6 +34,7 @@ impl Stack {
     }
 
     /// The stack at work, in the working bays that are lent for the weights of its bodies.
+    // The length is a clause, and no array type: memory is lent as one slice and cut while the program runs.
     pub fn over<'s, 'm, W>(&'s mut self, work: &'m mut [W]) -> Working<'s, 'm, W>
         requires { length work.old ≡ 3840 }
         ensures bodies { bodies result ≡ waiting self.old.height self.old.records work.old }
@@ -61,7 +62,8 @@ impl Stack {
         self.records[slot]
     }
 
-    // Records are read and written here, and not by `Working`: of an array behind a `&mut` field a proof knows no length.
+    // Records are read and written here, and not by `Working`: of an array behind the `&mut` in its field no element can
+    // be read, and a proof knows no length.
 
     /// The record in a slot.
     fn record(&self, slot: usize) -> &Record
@@ -93,9 +95,9 @@ pub struct Working<'s, 'm, W> {
     ghost room: { length work.now ≡ 3840 },
 }
 
-// The length is a clause, and no array type: memory is lent as one slice and cut while the program runs.
-// `same_stack` and `same_reference` say that a `Working` keeps the stack and the bays that were lent: clauses of each
-// method, since a type cannot speak of what its value was before.
+// The length of what is lent to write into is a clause, and no array type: memory is lent as one slice and cut while the
+// program runs. `same_stack` and `same_reference` say that a `Working` keeps the stack and the bays that were lent:
+// clauses of each method, since a type cannot speak of what its value was before.
 impl<W: Weight> Working<'_, '_, W> {
     ghost use Rattle.stack.specs.Stacks.{bodies};
 

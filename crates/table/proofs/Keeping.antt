@@ -32,7 +32,7 @@ kept_index t all n = record {
 pub kept_at : (t : Table) → AllKept t → (p : Place) → Kept (record_of t p)
 kept_at t all p = kept_index t all (number p)
 
--- also a record that is read from it
+-- also a record that is read from the table
 pub read_kept : (t : Table) (n : ℕ) (r : Record) → r ≡ get_or t.records n no_record → AllKept t → Kept r
 read_kept t n r is all = subst Kept (sym is) (kept_index t all n)
 

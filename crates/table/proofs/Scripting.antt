@@ -35,12 +35,12 @@ abbrev pub more : {V E : Type 0} → ℕ → Ran V E → Ran V E
 more n r = record { after = r.after; done = n + r.done; stop = r.stop }
 
 -- so many lines are done, and the steps before step i; the script began at the bodies `from`
-pub record Done {W : Type 0} (k : Kind W) (steps : List Step) (i lines : ℕ) (from : Place → Body W) (table : Table) (bays : List W) (stack : Working W) : Type 0 where
+pub record Done {W : Type 0} (k : Kind W) (steps : List Step) (i lines : ℕ) (from : Place → Body W) (table : Table) (bays : List W) (working : Working W) : Type 0 where
   pub kept : AllKept table
   pub long : length bays ≡ 5120
   pub fewer : lines ≤ i
-  pub carries : Carries stack.stack.now.height (drop i steps) 0
-  pub goes : carry (drawing k) steps [] from ≡ more lines (carry (drawing k) (drop i steps) (bodies stack) (body_of table bays))
+  pub carries : Carries working.stack.now.height (drop i steps) 0
+  pub goes : carry (drawing k) steps [] from ≡ more lines (carry (drawing k) (drop i steps) (bodies working) (body_of table bays))
 
 -- a step that stores ends its line
 pub count_store : {V E : Type 0} (s : Step) (p : Place) (n : ℕ) → s ≡ Store p → (r : Ran V E) → more n (counted s r) ≡ more (n + 1) r
@@ -74,11 +74,11 @@ module _ {W : Type 0} (k : Kind W) (steps : List Step) (i lines : ℕ) (from : P
     here_goes = d.goes ∙ ap (λ (ss : List Step). more lines (carry (drawing k) ss (bodies s) (body_of t bays))) split
 
     -- a step more
-    pub done_more : (table : Table) (after : List W) (stack : Working W) (n : ℕ) → AllKept table → length after ≡ 5120 → stack.stack.now.height ≡ left_waiting step s.stack.now.height
+    pub done_more : (table : Table) (after : List W) (working : Working W) (n : ℕ) → AllKept table → length after ≡ 5120 → working.stack.now.height ≡ left_waiting step s.stack.now.height
         → n ≤ lines + 1 → ((r : Ran (Body W) StepFault) → more lines (counted step r) ≡ more n r)
-        → Stepped k step (body_of t bays) (body_of table after) (bodies s) (bodies stack) (Ok tt)
-        → Done k steps (i + 1) n from table after stack
-    done_more table after stack n kept long height few count on = record {
+        → Stepped k step (body_of t bays) (body_of table after) (bodies s) (bodies working) (Ok tt)
+        → Done k steps (i + 1) n from table after working
+    done_more table after working n kept long height few count on = record {
       kept = kept;
       long = long;
       fewer = omega (arith, d.fewer);

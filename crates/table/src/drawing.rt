@@ -23,7 +23,8 @@ pub const PLACE_WEIGHTS: usize = PLACES * BAY;
 /// How many weights the working bays have.
 const WORK_WEIGHTS: usize = MAX_WAITING * BAY;
 
-// The bays and the stack at work are parameters: a struct that lends them with the table would promise of each that it stays.
+// The bays and the stack at work are parameters: a struct that lends them with the table would promise of each that it
+// stays.
 impl Table {
     /// The body of a place.
     pub fn body<'a, W: Weight>(&'a self, place: Place, bays: &'a [W]) -> Stored<'a, W>
